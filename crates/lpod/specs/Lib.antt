@@ -1,0 +1,11 @@
+pub mod Lists
+pub mod Rule
+pub mod Satisfied
+pub mod Reduct
+pub mod Least
+pub mod Answer
+pub mod Split
+pub mod HereThere
+pub mod Degree
+pub mod Preferred
+pub mod Best

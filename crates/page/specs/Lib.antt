@@ -1,0 +1,4 @@
+pub mod Fields
+pub mod Program
+pub mod Refusals
+pub mod Letter
