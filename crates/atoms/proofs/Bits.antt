@@ -3,8 +3,8 @@
 use mathlib.Core.Path.{_≡_, refl, sym, ap, _∙_, subst}
 use mathlib.Core.Bool.{Bool, true, false, _&&_, _||_, cond, true≢false, false≢true}
 use mathlib.Core.Logic.{_⊎_, inl, inr, ⊎-elim}
-use Prim.Native.Nat.{ℕ, zero, suc, _*_, _/_, _%_, _^_, _≤_, _<_, suc-le-suc}
-use native.Mathlib.Nat.{mod-lt, zero-lt-suc, zero-div, div-eq-of-lt, lt-of-lt-of-le, lt-of-le-of-lt, lt-of-not-le, div-one, pow-suc, mul-mod-left, mul-div-cancel, one-mul}
+use Prim.Native.Nat.{ℕ, zero, suc, _+_, _*_, _/_, _%_, _^_, _≤_, _<_, suc-le-suc}
+use native.Mathlib.Nat.{mod-lt, zero-lt-suc, zero-div, div-eq-of-lt, lt-of-lt-of-le, lt-of-not-le, div-one, pow-suc, mul-mod-left, mul-div-cancel, one-mul}
 use native.Mathlib.Numerals.{one-add}
 use lib.Pow.{pow-mono, shr-shr, shl-exact}
 use lib.Arith.{lt-one}
@@ -12,7 +12,7 @@ use native.Mathlib.Omega.{arith}
 use lib.Dec.{T, eqb, ltb, eqb→eq, eqb-refl, lt→ltb, eqb·zero-suc, eqb·suc-zero, eqb·suc-suc}
 use lib.Bits.{bitAnd, bitOr, and-shr, or-shr, and-mod, or-mod, and-le-l, and-le-r}
 use Rattle.atoms.specs.Atoms.{has, insert, withAtom, Inside, inside}
-use Rattle.atoms.proofs.Truth.{or-l, or-r, or-cases, yes-true}
+use Rattle.atoms.proofs.Truth.{or-l, or-r, or-cases, yes-true, same-yes}
 
 -- a number below 2 is 0 or 1
 pub two : (P : ℕ → Type 0) → P 0 → P 1 → (n : ℕ) → n < 2 → P n
@@ -93,25 +93,36 @@ and-imp true true e t = tt
 and-imp true false e t = absurd (false≢true e)
 and-imp false y e t = absurd t
 
-pub inside-and : (k a b : ℕ) → a < 2 ^ k → Inside a b → bitAnd a b ≡ a
-inside-and k a b h f =
-    has-ext k (bitAnd a b) a (lt-of-le-of-lt (and-le-l a b) h) h
-    (λ i l. has-and a b i ∙ imp-and (has a i) (has b i) (f i))
+-- two numbers of any width: both are below a power of 2
+lt-pow : (n : ℕ) → n < 2 ^ n
+lt-pow zero = omega arith
+lt-pow (suc n) = rw (pow-suc 2 n) (let h = lt-pow n in omega arith)
+
+pub same-atoms : (a b : ℕ) → ((i : ℕ) → has a i ≡ has b i) → a ≡ b
+same-atoms a b f =
+    has-ext (a + b) a b (lt-of-lt-of-le (lt-pow a) (pow-mono (omega arith))) (lt-of-lt-of-le (lt-pow b) (pow-mono (omega arith))) (λ i l. f i)
+
+pub inside-both : (a b : ℕ) → Inside a b → Inside b a → a ≡ b
+inside-both a b f g = same-atoms a b (λ i. same-yes (has a i) (has b i) (f i) (g i))
+
+pub inside-and : (a b : ℕ) → Inside a b → bitAnd a b ≡ a
+inside-and a b f = same-atoms (bitAnd a b) a (λ i. has-and a b i ∙ imp-and (has a i) (has b i) (f i))
 
 pub and-inside : (a b : ℕ) → bitAnd a b ≡ a → Inside a b
 and-inside a b e i = and-imp (has a i) (has b i) (sym (has-and a b i) ∙ ap (λ (x : ℕ). has x i) e)
 
-pub inside-le : (k a b : ℕ) → a < 2 ^ k → Inside a b → a ≤ b
-inside-le k a b h f = rw (← inside-and k a b h f) (and-le-r a b)
+-- a part is no larger a number
+pub inside-le : (a b : ℕ) → Inside a b → a ≤ b
+inside-le a b f = rw (← inside-and a b f) (and-le-r a b)
 
 -- what `1 << i` is in 16 bits
 pub shl-single : (i : ℕ) → i < 16 → 1 * 2 ^ i % 65536 ≡ 2 ^ i
 shl-single i h = shl-exact 1 i 16 (omega arith) (omega arith) ∙ one-mul (2 ^ i)
 
 -- the test for a part says what it should
-pub inside-test : (k a b : ℕ) → a < 2 ^ k → Inside a b → T (inside a b)
+pub inside-test : (a b : ℕ) → Inside a b → T (inside a b)
 unfolding inside
-inside-test k a b h f = subst (λ (x : ℕ). T (eqb x a)) (sym (inside-and k a b h f)) (eqb-refl a)
+inside-test a b f = subst (λ (x : ℕ). T (eqb x a)) (sym (inside-and a b f)) (eqb-refl a)
 
 pub test-inside : (a b : ℕ) → T (inside a b) → Inside a b
 unfolding inside

@@ -43,10 +43,6 @@ ones-same (suc k) a b h g f l =
     let e : a / 2 ≡ b / 2 = ones-same k (a / 2) (b / 2) (omega arith) (omega arith) (inside-half a b f) (omega (arith, ones-step a, ones-step b)) in
     omega (arith, ones-step a, ones-step b, ap ones e)
 
--- sets that lie inside each other are one
-pub inside-both : (k a b : ℕ) → a < 2 ^ k → b < 2 ^ k → Inside a b → Inside b a → a ≡ b
-inside-both k a b h g f e = ones-same k a b h g f (ones-mono k b a g e)
-
 -- the lowest atom of a set that is not empty is in it, and none below
 pub lowest-in : (k s : ℕ) → s < 2 ^ k → 0 < s → T (has s (trailingZeros k s))
 unfolding trailingZeros

@@ -12,6 +12,12 @@ unfoldable pub headHolds : List ℕ → ℕ → ℕ → Bool
 headHolds [] H T = false
 headHolds (c ∷ cs) H T = cond (has T c) (has H c) (headHolds cs H T)
 
+-- the same head by the operator of 001 (13), F × G = F ∨ (¬F ∧ G): an atom holds where it is in H, its denial where it is not in T.
+-- For H inside T it is the head above
+unfoldable pub ordered : List ℕ → ℕ → ℕ → Bool
+ordered [] H T = false
+ordered (c ∷ cs) H T = has H c || (not (has T c) && ordered cs H T)
+
 -- a row holds: T satisfies it, and (H, T) misses the body or the head holds
 unfoldable pub rowHolds : ℕ → ℕ → Rule → Bool
 rowHolds H T r = satisfies T r && (not (allIn (r .pos) H && noneIn (r .neg) T) || headHolds (r .head) H T)

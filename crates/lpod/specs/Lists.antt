@@ -1,7 +1,7 @@
 -- Words for lists that the definitions are written in: every, some, keep, gather, a run of numbers.
 use mathlib.Core.Bool.{Bool, true, false, _&&_, _||_, cond}
-use mathlib.Core.List.{List, [], _∷_, _++_}
-use Prim.Native.Nat.{ℕ, zero, suc}
+use mathlib.Core.List.{List, [], _∷_, _++_, List·Memᴰ}
+use Prim.Native.Nat.{ℕ, zero, suc, _<_}
 
 -- every element passes; some element does
 unfoldable pub every : {A : Type 0} → (A → Bool) → List A → Bool
@@ -29,3 +29,8 @@ numbers i (suc n) = i ∷ numbers (suc i) n
 
 abbrev pub below : ℕ → List ℕ
 below n = numbers 0 n
+
+-- each number is below all that follow it: so none stands twice
+abbrev pub Rising : List ℕ → Type 0
+Rising [] = Unit {0}
+Rising (a ∷ l) = ((b : ℕ) → List·Memᴰ b l → a < b) × Rising l

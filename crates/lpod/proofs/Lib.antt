@@ -1,0 +1,14 @@
+pub mod Lists
+pub mod LeastClosed
+pub mod FirstAtom
+pub mod ReductIsHereThere
+pub mod OrderedDisjunction
+pub mod RowOptions
+pub mod ReductIsSplit
+pub mod DegreesInRange
+pub mod FirstMore
+pub mod InclusionOrder
+pub mod BestAbove
+pub mod ListsExact
+pub mod PickIsBest
+pub mod Between
