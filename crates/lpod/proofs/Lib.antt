@@ -12,3 +12,4 @@ pub mod BestAbove
 pub mod ListsExact
 pub mod PickIsBest
 pub mod Between
+pub mod KnownPages
