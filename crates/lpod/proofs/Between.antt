@@ -71,9 +71,9 @@ module _ (p : Program) (s : ℕ) (t : T (answer p s)) where
       let h = row-of (g .0) s d (g .1 .1) .0 in
       ⊎-elim (λ n. in-top (d .atom) (inr (of-list (headAtoms (p .rows)) (d .atom) (of-heads (p .rows) (g .0) (d .atom) n h))))
       (λ n.
-          let w = row-raised (p .flags) (g .0) n in
-          let e : d .atom ≡ w .0 = ⊎-elim (λ x. x) (λ i. elim i [ ]) (List·Memᴰ·cases-cons (subst (λ (x : Rule). List·Memᴰ (d .atom) (x .head)) (w .1 .0) h)) in
-          in-top (d .atom) (inl (subst (λ (a : ℕ). T (has (p .flags) a)) (sym e) (w .1 .1))))
+      let w = row-raised (p .flags) (g .0) n in
+      let e : d .atom ≡ w .0 = ⊎-elim (λ x. x) (λ i. elim i [ ]) (List·Memᴰ·cases-cons (subst (λ (x : Rule). List·Memᴰ (d .atom) (x .head)) (w .1 .0) h)) in
+      in-top (d .atom) (inl (subst (λ (a : ℕ). T (has (p .flags) a)) (sym e) (w .1 .1))))
       (List·Memᴰ·append-cases (p .rows) (g .1 .0))
 
   pub inside-heads : Inside s (union (p .flags) (setOf (headAtoms (p .rows))))

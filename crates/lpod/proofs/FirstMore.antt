@@ -51,7 +51,7 @@ module _ (w : ℕ → ℕ → ℕ → Bool) (n M N : ℕ) where
         (both (moreAt w k M N) _ (both (w k M N) (not (w k N M)) (d .over) (not-T (w k N M) (d .strict)))
         (every-made (λ j. equalAt w j M N) (numbers 1 (k - 1))
         (λ j m. let i = in-numbers 1 (k - 1) j m in
-            let h : j < k = omega (arith, i .1, d .from) in both (w j M N) (w j N M) (d .up j (i .0) h) (d .down j (i .0) h))))),
+        let h : j < k = omega (arith, i .1, d .from) in both (w j M N) (w j N M) (d .up j (i .0) h) (d .down j (i .0) h))))),
   )
 
 pub first-irreflexive : (w : ℕ → ℕ → ℕ → Bool) (n M : ℕ) → T (firstMore w n M M) → ⊥

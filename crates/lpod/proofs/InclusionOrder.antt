@@ -73,8 +73,7 @@ preferred-says p M N = (
       let n : T (within (rules p) (x .k) N M) → ⊥ = λ t. x .strict (within-says (rules p) (x .k) N M .0 t) in
       let f = within-fails (rules p) (x .k) N M n in
       let l = degree-longest (rules p) M (f .0) (f .1 .0) in
-      first-says (within (rules p)) (longest (rules p)) M N .1
-      (
+      first-says (within (rules p)) (longest (rules p)) M N .1 (
         x .k,
         omega (arith, f .1 .1),
         record {

@@ -43,7 +43,7 @@ module _ (p : Program) where
   unfolding best bestSets
   best-above-answer s l t n =
       let b = best-above (preferred p) (preferred-irreflexive p) (preferred-transitive p) (answerSets p) s (answers-exact p s .1 (l, t))
-          (λ u. n (both (answer p s) (noneOver (preferred p) (answerSets p) s) t u)) in
+      (λ u. n (both (answer p s) (noneOver (preferred p) (answerSets p) s) t u)) in
       let e = bests-exact p (b .0) .0 (b .1 .0) in
       (b .0, (e .0, e .1, b .1 .1))
 

@@ -218,6 +218,7 @@ opt-own r e c cs s k = record {
         let n = body-none r s b in
         yes-true (someIn (c ∷ cs) s)
         (some-here c cs s (k (rule r c) (subst (λ (D : List Definite). List·Memᴰ (rule r c) D) (sym (gl-at r e c s n q)) (List·Memᴰ·head refl)) (body-all r s b)))
+
 options-own : (r : Rule) (e hs : List ℕ) (s : ℕ) (o : Option) → List·Memᴰ o (optionsFrom r e hs) → Closed (glRow s o) s → Own r s o (e ++ hs)
 unfolding optionsFrom
 options-own r e [] s o m k = elim m [ ]

@@ -1,0 +1,73 @@
+-- The rows of a page, taken one at a time as code takes them: what the row in hand is, where the next one stands, and that places stay so small
+-- that none goes round at 32 bits. A pass over the rows keeps `i ≡ literalPlace page n` and cites these laws: it
+-- sees no offset. Assumes nothing.
+use mathlib.Core.Path.{_≡_, refl, ap, _∙_}
+use mathlib.Core.List.{List, [], _∷_}
+use Prim.Native.Nat.{ℕ, zero, suc, _+_, _*_, _-_, _≤_, _<_}
+use native.Mathlib.Omega.{arith}
+use native.Mathlib.Nat.{sub-zero}
+use mir.Syntax.{w8}
+use mir.Val.{Fits}
+use native.Mathlib.Numerals.{sub-one, add-one}
+use Rattle.page.specs.Fields.{byteAt, wordAt, rowCount, literalsAt, rowsAt, headCount, posCount, negCount, literalsOf}
+use Rattle.page.specs.Program.{ruleAt, rowsFrom, rowsOf, literalPlace}
+use Rattle.page.specs.Rows.{rowFrom, ruleOf, placeAfter}
+use Rattle.page.specs.declared.rows.Row.{Row}
+
+-- ---- by the definitions
+pub rows-step : (page : List ℕ) (r i n : ℕ) → 0 < n → rowsFrom page r i n ≡ ruleAt page r i ∷ rowsFrom page (r + 1) (i + literalsOf page r) (n - 1)
+unfolding rowsFrom
+rows-step page r i zero h = absurd (omega arith)
+rows-step page r i (suc n) h = rw sub-one refl
+
+pub rows-none : (page : List ℕ) (r i n : ℕ) → n ≡ 0 → rowsFrom page r i n ≡ []
+unfolding rowsFrom
+rows-none page r i n e = rw e
+
+-- the row that code reads is the rule that the page has there
+pub rule-from : (page : List ℕ) (n i : ℕ) (row : Row) → row ≡ rowFrom page n i → ruleOf page row ≡ ruleAt page n i
+unfolding ruleOf rowFrom ruleAt
+rule-from page n i row e = ap (ruleOf page) e
+
+-- ---- by a row in hand
+-- what a lent slice knows of itself: its elements are bytes
+abbrev pub Bytes : List ℕ → Type 0
+Bytes page = (i : ℕ) → Fits w8 (byteAt page i)
+
+-- so places stay small
+pub place-small : (page : List ℕ) → Bytes page → (n : ℕ) → literalPlace page n ≤ 18 + 4 * 65535 + 765 * n
+unfolding literalPlace literalsAt rowsAt wordAt literalsOf headCount posCount negCount
+place-small page bytes zero = omega (arith, bytes 4, bytes 5)
+place-small page bytes (suc n) =
+    omega (arith, place-small page bytes n, bytes (18 + 4 * n), bytes (18 + 4 * n + 1), bytes (18 + 4 * n + 2))
+
+pub at-first : (page : List ℕ) (i : ℕ) → i ≡ literalsAt page → i ≡ literalPlace page 0
+unfolding literalPlace
+at-first page i e = e
+
+-- all rows are those from row 0 on
+pub rest-first : (page : List ℕ) (i rows : ℕ) → i ≡ literalsAt page → rows ≡ rowCount page → rowsOf page ≡ rowsFrom page 0 i (rows - 0)
+unfolding rowsOf
+rest-first page i rows e er = rw (e, ← er, sub-zero rows)
+
+-- the row in hand is row n, and its first literal stands at i
+module _ (page : List ℕ) (bytes : Bytes page) (n i : ℕ) (row : Row) (l : n < 65536) (at : i ≡ literalPlace page n) (e : row ≡ rowFrom page n i) where
+  pub place-next : placeAfter row ≡ i + literalsOf page n
+  unfolding placeAfter rowFrom literalsOf literalPlace
+  place-next =
+      let j : row .place + row .head + row .pos + row .neg ≡ i + headCount page n + posCount page n + negCount page n = rw e in
+      omega (arith, place-small page bytes (suc n))
+
+  pub at-next : (i′ : ℕ) → i′ ≡ placeAfter row → i′ ≡ literalPlace page (n + 1)
+  unfolding literalPlace
+  at-next i′ e′ = e′ ∙ place-next ∙ rw (add-one, at)
+
+  -- the rows from row n on: the row in hand, and those from the next one on
+  pub rest-step : (rows i′ : ℕ) → n < rows → i′ ≡ placeAfter row
+      → rowsFrom page n i (rows - n) ≡ ruleOf page row ∷ rowsFrom page (n + 1) i′ (rows - (n + 1))
+  rest-step rows i′ h e′ =
+      let k : rows - n - 1 ≡ rows - (n + 1) = omega arith in
+      rows-step page n i (rows - n) (omega arith) ∙ rw (← rule-from page n i row e, e′, place-next, k)
+
+pub rest-none : (page : List ℕ) (n i rows : ℕ) → rows ≤ n → rowsFrom page n i (rows - n) ≡ []
+rest-none page n i rows h = rows-none page n i (rows - n) (omega arith)
