@@ -43,7 +43,7 @@ fire-keeps (d ∷ D) s t i h = fire-keeps D s (cond (allIn (d .body) s) (insert 
     go false = h
 
 -- it adds the atom of each rule whose body holds
-fire-adds : (D : List Definite) (s t : ℕ) (d : Definite) → List·Memᴰ d D → T (allIn (d .body) s) → T (has (fire D s t) (d .atom))
+pub fire-adds : (D : List Definite) (s t : ℕ) (d : Definite) → List·Memᴰ d D → T (allIn (d .body) s) → T (has (fire D s t) (d .atom))
 unfolding fire
 fire-adds [] s t d m h = elim m [ ]
 fire-adds (e ∷ D) s t d m h =
@@ -57,7 +57,7 @@ fire-adds (e ∷ D) s t d m h =
     go false u p = absurd u
 
 -- from inside a closed set it stays inside
-fire-inside : (D : List Definite) (s t c : ℕ) → Closed D c → Inside s c → Inside t c → Inside (fire D s t) c
+pub fire-inside : (D : List Definite) (s t c : ℕ) → Closed D c → Inside s c → Inside t c → Inside (fire D s t) c
 unfolding fire
 fire-inside [] s t c k f g = g
 fire-inside (d ∷ D) s t c k f g =
@@ -81,7 +81,7 @@ unfolding rounds
 rounds-inside zero D s c k f = f
 rounds-inside (suc n) D s c k f = rounds-inside n D (fire D s s) c k (fire-inside D s s c k f f)
 
-empty-inside : (s : ℕ) → Inside 0 s
+pub empty-inside : (s : ℕ) → Inside 0 s
 empty-inside s i h = absurd (false-no (has-zero i) h)
 
 stays : (n : ℕ) (D : List Definite) (s : ℕ) → fire D s s ≡ s → rounds n D s ≡ s

@@ -13,3 +13,4 @@ pub mod ListsExact
 pub mod PickIsBest
 pub mod Between
 pub mod KnownPages
+pub mod Firing

@@ -1,0 +1,2 @@
+// Three tests of one set, each by a road of its own: by the reduct, by here-and-there, by split programs.
+pub mod reduct;
