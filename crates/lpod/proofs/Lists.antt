@@ -3,9 +3,10 @@ use mathlib.Core.Path.{_≡_, refl, sym, ap, _∙_, subst}
 use mathlib.Core.Bool.{Bool, true, false, _&&_, _||_, cond}
 use mathlib.Core.Logic.{_⊎_, inl, inr, ⊎-elim}
 use mathlib.Core.List.{List, [], _∷_, _++_, map, append-assoc, List·Memᴰ, List·Memᴰ·head, List·Memᴰ·tail, List·Memᴰ·cases-cons, List·Memᴰ·append-cases, Memᴰ·append-left, Memᴰ·append-right}
-use Prim.Native.Nat.{ℕ, zero, suc, _+_, _≤_, _<_}
+use Prim.Native.Nat.{ℕ, zero, suc, _+_, _-_, _≤_, _<_}
 use native.Mathlib.Nat.{le-refl}
 use native.Mathlib.Decide.{ℕ-discrete}
+use native.Mathlib.Numerals.{add-one}
 use native.Mathlib.Omega.{arith}
 use lib.Dec.{T}
 use lib.ListN.{length}
@@ -198,6 +199,17 @@ pub numbers-rise : (i n : ℕ) → Rising (numbers i n)
 unfolding numbers
 numbers-rise i zero = tt
 numbers-rise i (suc n) = ((λ b m. in-numbers (suc i) n b m .0), numbers-rise (suc i) n)
+
+-- a count up from i to n: the numbers from i on are i and those from i + 1 on
+pub numbers-next : (i n : ℕ) → i < n → numbers i (n - i) ≡ i ∷ numbers (i + 1) (n - (i + 1))
+unfolding numbers
+numbers-next i n h =
+    let e : n - i ≡ suc (n - (i + 1)) = omega arith in
+    ap (numbers i) e ∙ ap (λ (k : ℕ). i ∷ numbers k (n - (i + 1))) (sym (add-one i))
+
+pub numbers-done : (i n : ℕ) → n ≤ i → numbers i (n - i) ≡ []
+unfolding numbers
+numbers-done i n h = let e : n - i ≡ 0 = omega arith in ap (numbers i) e
 
 -- what is kept of a rising list rises
 pub keep-rises : (p : ℕ → Bool) (l : List ℕ) → Rising l → Rising (keep p l)

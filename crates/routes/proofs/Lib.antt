@@ -1,2 +1,3 @@
 pub mod Rounds
 pub mod FourTests
+pub mod HeadsHold
