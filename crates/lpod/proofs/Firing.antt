@@ -152,11 +152,11 @@ fire-raised f I s t w = same-atoms (fire D s t) (bitOr t (bitAnd f I)) (λ i. sa
         in-both i
         (⊎-elim (λ x. inl x)
         (λ x.
-            let g = in-gather (λ r. reductRow r I) (raised f) (x .0) (x .1 .0) in
-            let u = row-raised f (g .0) (g .1 .0) in
-            let v = fact-in (u .0) I (x .0) (subst (λ (r : Rule). List·Memᴰ (x .0) (reductRow r I)) (u .1 .0) (g .1 .1)) in
-            let e : i ≡ u .0 = x .1 .2 ∙ v .0 in
-            inr (subst (λ (a : ℕ). T (has f a && has I a)) (sym e) (both (has f (u .0)) (has I (u .0)) (u .1 .1) (v .1))))
+        let g = in-gather (λ r. reductRow r I) (raised f) (x .0) (x .1 .0) in
+        let u = row-raised f (g .0) (g .1 .0) in
+        let v = fact-in (u .0) I (x .0) (subst (λ (r : Rule). List·Memᴰ (x .0) (reductRow r I)) (u .1 .0) (g .1 .1)) in
+        let e : i ≡ u .0 = x .1 .2 ∙ v .0 in
+        inr (subst (λ (a : ℕ). T (has f a && has I a)) (sym e) (both (has f (u .0)) (has I (u .0)) (u .1 .1) (v .1))))
         (fire-from D s t i h))
 
     gives : (i : ℕ) → T (has f i) → T (has I i) → T (has (fire D s t) i)

@@ -1,3 +1,9 @@
-pub mod Pass
+pub mod Scan
+pub mod Refusals
+pub mod Words
+pub mod Places
+pub mod Accepted
+pub mod AcceptedAtoms
 pub mod Literals
 pub mod RowSteps
+pub mod ReaderSteps

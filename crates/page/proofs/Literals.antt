@@ -1,35 +1,44 @@
--- A run of literals and a run of pairs, taken one at a time: the first is read off the page and the rest starts behind it. Then the literal
--- at k. By cases on how many are left. Assumes nothing.
+-- Laws of a run of literals: the place of the first that is in a set, one literal at a time; and the literal at k. By computing, and by induction
+-- on the run. Assumes nothing.
 use mathlib.Core.Path.{_≡_, refl, ap, _∙_}
+use mathlib.Core.Bool.{Bool, true, false, _||_, not, cond}
 use mathlib.Core.List.{List, [], _∷_}
-use Prim.Native.Nat.{ℕ, zero, suc, _+_, _-_, _≤_, _<_}
+use Prim.Native.Nat.{ℕ, zero, suc, _+_, _≤_, _<_}
 use native.Mathlib.Omega.{arith}
 use native.Mathlib.Nat.{add-zero}
-use native.Mathlib.Numerals.{sub-one}
+use native.Mathlib.Numerals.{add-one}
+use lib.Dec.{eqb, eqb·suc-zero}
 use lib.ListN.{getD, length, List·getD-eq-default}
+use Rattle.atoms.specs.Atoms.{has}
+use Rattle.lpod.specs.Lists.{some}
+use Rattle.lpod.specs.Satisfied.{someIn}
+use Rattle.lpod.specs.Degree.{place}
 use Rattle.page.specs.Fields.{byteAt}
-use Rattle.page.specs.Program.{literals, pairsFrom}
+use Rattle.page.specs.Program.{literals}
 
--- a is the literal at i
-pub literals-step : (page : List ℕ) (i n a : ℕ) → 0 < n → a ≡ byteAt page i → literals page i n ≡ a ∷ literals page (i + 1) (n - 1)
-unfolding literals
-literals-step page i zero a h e = absurd (omega arith)
-literals-step page i (suc n) a h e = rw (sub-one, e) refl
+-- ---- the place of the first atom that is in s, the first atom a being there or not
+module _ (s k : ℕ) {l rest : List ℕ} {a : ℕ} (e : l ≡ a ∷ rest) where
+  pub place-go : has s a ≡ false → (k′ : ℕ) → k′ ≡ k + 1 → place k l s ≡ place k′ rest s
+  unfolding place
+  place-go t k′ ek = ap (λ (l : List ℕ). place k l s) e ∙ rw (t, ek, add-one)
 
-pub literals-none : (page : List ℕ) (i n : ℕ) → n ≡ 0 → literals page i n ≡ []
-unfolding literals
-literals-none page i n e = rw e
+  pub place-stop : has s a ≡ true → place k l s ≡ k
+  unfolding place
+  place-stop t = ap (λ (l : List ℕ). place k l s) e ∙ rw t
 
--- a and b are the two atoms of the pair at i
-pub pairs-step : (page : List ℕ) (i n a b : ℕ) → 0 < n → a ≡ byteAt page i → b ≡ byteAt page (i + 1)
-    → pairsFrom page i n ≡ record { one = a; other = b } ∷ pairsFrom page (i + 2) (n - 1)
-unfolding pairsFrom
-pairs-step page i zero a b h ea eb = absurd (omega arith)
-pairs-step page i (suc n) a b h ea eb = rw (sub-one, ea, eb) refl
+pub place-none : (s k : ℕ) {l : List ℕ} → l ≡ [] → place k l s ≡ 0
+unfolding place
+place-none s k e = ap (λ (l : List ℕ). place k l s) e
 
-pub pairs-none : (page : List ℕ) (i n : ℕ) → n ≡ 0 → pairsFrom page i n ≡ []
-unfolding pairsFrom
-pairs-none page i n e = rw e
+-- some atom is in s where the first such has a place
+pub some-place : (l : List ℕ) (s k : ℕ) → someIn l s ≡ not (eqb (place (suc k) l s) 0)
+unfolding someIn some place
+some-place [] s k = refl
+some-place (a ∷ l) s k = go (has s a) (some-place l s (suc k))
+  where
+    go : (b : Bool) → someIn l s ≡ not (eqb (place (suc (suc k)) l s) 0) → (b || someIn l s) ≡ not (eqb (cond b (suc k) (place (suc (suc k)) l s)) 0)
+    go true e = rw (eqb·suc-zero k)
+    go false e = e
 
 -- ---- the literal at k
 length-literals : (page : List ℕ) (i n : ℕ) → length (literals page i n) ≡ n

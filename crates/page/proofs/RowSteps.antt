@@ -2,34 +2,26 @@
 -- that none goes round at 32 bits. A pass over the rows keeps `i ≡ literalPlace page n` and cites these laws: it
 -- sees no offset. Assumes nothing.
 use mathlib.Core.Path.{_≡_, refl, ap, _∙_}
-use mathlib.Core.List.{List, [], _∷_}
+use mathlib.Core.List.{List, [], _∷_, map}
 use Prim.Native.Nat.{ℕ, zero, suc, _+_, _*_, _-_, _≤_, _<_}
 use native.Mathlib.Omega.{arith}
 use native.Mathlib.Nat.{sub-zero}
 use mir.Syntax.{w8}
 use mir.Val.{Fits}
 use native.Mathlib.Numerals.{sub-one, add-one}
+use Rattle.lpod.specs.Lists.{numbers}
+use Rattle.lpod.specs.Rule.{Rule}
 use Rattle.page.specs.Fields.{byteAt, wordAt, rowCount, literalsAt, rowsAt, headCount, posCount, negCount, literalsOf}
 use Rattle.page.specs.Program.{ruleAt, rowsFrom, rowsOf, literalPlace}
 use Rattle.page.specs.Rows.{rowFrom, ruleOf, placeAfter}
 use Rattle.page.specs.declared.rows.Row.{Row}
-
--- ---- by the definitions
-pub rows-step : (page : List ℕ) (r i n : ℕ) → 0 < n → rowsFrom page r i n ≡ ruleAt page r i ∷ rowsFrom page (r + 1) (i + literalsOf page r) (n - 1)
-unfolding rowsFrom
-rows-step page r i zero h = absurd (omega arith)
-rows-step page r i (suc n) h = rw sub-one refl
-
-pub rows-none : (page : List ℕ) (r i n : ℕ) → n ≡ 0 → rowsFrom page r i n ≡ []
-unfolding rowsFrom
-rows-none page r i n e = rw e
+use Rattle.page.proofs.Scan.{rows-step, rows-none, place-next}
 
 -- the row that code reads is the rule that the page has there
 pub rule-from : (page : List ℕ) (n i : ℕ) (row : Row) → row ≡ rowFrom page n i → ruleOf page row ≡ ruleAt page n i
 unfolding ruleOf rowFrom ruleAt
 rule-from page n i row e = ap (ruleOf page) e
 
--- ---- by a row in hand
 -- what a lent slice knows of itself: its elements are bytes
 abbrev pub Bytes : List ℕ → Type 0
 Bytes page = (i : ℕ) → Fits w8 (byteAt page i)
@@ -52,22 +44,27 @@ rest-first page i rows e er = rw (e, ← er, sub-zero rows)
 
 -- the row in hand is row n, and its first literal stands at i
 module _ (page : List ℕ) (bytes : Bytes page) (n i : ℕ) (row : Row) (l : n < 65536) (at : i ≡ literalPlace page n) (e : row ≡ rowFrom page n i) where
-  pub place-next : placeAfter row ≡ i + literalsOf page n
+  pub after-row : placeAfter row ≡ i + literalsOf page n
   unfolding placeAfter rowFrom literalsOf literalPlace
-  place-next =
+  after-row =
       let j : row .place + row .head + row .pos + row .neg ≡ i + headCount page n + posCount page n + negCount page n = rw e in
       omega (arith, place-small page bytes (suc n))
 
   pub at-next : (i′ : ℕ) → i′ ≡ placeAfter row → i′ ≡ literalPlace page (n + 1)
-  unfolding literalPlace
-  at-next i′ e′ = e′ ∙ place-next ∙ rw (add-one, at)
+  at-next i′ e′ = e′ ∙ after-row ∙ rw (at, place-next page n)
 
   -- the rows from row n on: the row in hand, and those from the next one on
   pub rest-step : (rows i′ : ℕ) → n < rows → i′ ≡ placeAfter row
       → rowsFrom page n i (rows - n) ≡ ruleOf page row ∷ rowsFrom page (n + 1) i′ (rows - (n + 1))
   rest-step rows i′ h e′ =
-      let k : rows - n - 1 ≡ rows - (n + 1) = omega arith in
-      rows-step page n i (rows - n) (omega arith) ∙ rw (← rule-from page n i row e, e′, place-next, k)
+      rows-step page i (rows - n) (rows - (n + 1)) (omega arith) n (literalsOf page n) refl ∙ rw (← rule-from page n i row e, e′, after-row)
 
 pub rest-none : (page : List ℕ) (n i rows : ℕ) → rows ≤ n → rowsFrom page n i (rows - n) ≡ []
-rest-none page n i rows h = rows-none page n i (rows - n) (omega arith)
+rest-none page n i rows h = rows-none page i (rows - n) (omega arith) n
+
+-- ---- by the row's number alone
+-- the rows from row r on are those with the numbers from r on, each at its own place
+pub rows-numbered : (page : List ℕ) (r n : ℕ) → rowsFrom page r (literalPlace page r) n ≡ map (λ k. ruleAt page k (literalPlace page k)) (numbers r n)
+unfolding rowsFrom numbers literalPlace
+rows-numbered page r zero = refl
+rows-numbered page r (suc n) = ap (λ (P : List Rule). ruleAt page r (literalPlace page r) ∷ P) (rw (add-one r) (rows-numbered page (suc r) n))

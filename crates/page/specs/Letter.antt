@@ -1,5 +1,5 @@
 -- The panel letter of a refusal number: P for page faults, C for call faults, F for findings, a space for all else.
-use mathlib.Core.Bool.{Bool, _&&_, _||_, cond}
+use mathlib.Core.Bool.{_&&_, _||_, cond}
 use Prim.Native.Nat.{ℕ}
 use lib.Dec.{leb, eqb}
 

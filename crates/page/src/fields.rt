@@ -1,5 +1,6 @@
 // The fields of a page and where its parts start. A byte past the end reads as 0, and nothing is read there.
 ghost use mathlib.Core.Path.{_≡_};
+ghost use Prim.Native.Nat.{_+_, _*_};
 ghost use Rattle.page.specs.Fields as fields;
 
 // The byte at i, 0 past the end.
@@ -82,4 +83,47 @@ pub fn end_of(page: &[u8]) -> u32
     let literals = literal_count(page) as u32;
     let pairs = pair_count(page) as u32;
     18 + 4 * rows + literals + 2 * pairs
+}
+
+// Byte k of row r.
+fn row_byte(page: &[u8], r: u16, k: u8) -> u8
+    ensures { λ b. ⌜ b ≡ fields.byteAt (now (page .entry)) (fields.rowsAt (now (page .entry)) + 4 * r + k) ⌝ }
+{
+    let at = rows_at(page) as usize;
+    byte_at(page, at + 4 * (r as usize) + (k as usize))
+}
+
+// The counts of row r and the byte after them.
+pub fn head_count(page: &[u8], r: u16) -> u8
+    ensures { λ n. ⌜ n ≡ fields.headCount (now (page .entry)) r ⌝ }
+{
+    row_byte(page, r, 0)
+}
+
+pub fn pos_count(page: &[u8], r: u16) -> u8
+    ensures { λ n. ⌜ n ≡ fields.posCount (now (page .entry)) r ⌝ }
+{
+    row_byte(page, r, 1)
+}
+
+pub fn neg_count(page: &[u8], r: u16) -> u8
+    ensures { λ n. ⌜ n ≡ fields.negCount (now (page .entry)) r ⌝ }
+{
+    row_byte(page, r, 2)
+}
+
+pub fn spare_byte(page: &[u8], r: u16) -> u8
+    ensures { λ n. ⌜ n ≡ fields.spareByte (now (page .entry)) r ⌝ }
+{
+    row_byte(page, r, 3)
+}
+
+// How many literals row r has.
+pub fn literals_of(page: &[u8], r: u16) -> u16
+    ensures { λ n. ⌜ n ≡ fields.literalsOf (now (page .entry)) r ⌝ }
+{
+    let head = head_count(page, r) as u16;
+    let pos = pos_count(page, r) as u16;
+    let neg = neg_count(page, r) as u16;
+    head + pos + neg
 }

@@ -1,3 +1,7 @@
-// The page: its fields and parts, read so that any bytes will do; its rows, one at a time.
+// The page: its fields and parts, read so that any bytes will do; the number it is refused with, and that number's letter; its rows, one
+// at a time; the row reader.
+pub mod accept;
 pub mod fields;
+pub mod letter;
+pub mod reader;
 pub mod rows;

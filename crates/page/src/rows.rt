@@ -8,7 +8,7 @@ ghost use Rattle.atoms.specs.Atoms.{has};
 ghost use Rattle.lpod.specs.Satisfied.{allIn, someIn, bodyHolds, satisfies, satisfiesAll, noPair};
 ghost use Rattle.lpod.specs.Degree as degrees;
 ghost use Rattle.page.specs.Fields.{literalsAt};
-ghost use Rattle.page.specs.Program.{literals, rowsOf, pairsOf};
+ghost use Rattle.page.specs.Program.{literals, rowsOf, pairsOf, literalPlace};
 ghost use Rattle.page.specs.Rows as means;
 use super::fields;
 
@@ -24,10 +24,9 @@ pub struct Row {
 pub fn row_from(page: &[u8], n: u16, place: u32) -> Row
     ensures { λ r. ⌜ r ≡ means.rowFrom (now (page .entry)) n place ⌝ }
 {
-    let at = fields::rows_at(page) as usize + 4 * (n as usize);
-    let head = fields::byte_at(page, at);
-    let pos = fields::byte_at(page, at + 1);
-    let neg = fields::byte_at(page, at + 2);
+    let head = fields::head_count(page, n);
+    let pos = fields::pos_count(page, n);
+    let neg = fields::neg_count(page, n);
     Row {
         head,
         pos,
@@ -52,6 +51,19 @@ pub fn place_after(row: Row) -> u32
     let pos = row.pos as u64;
     let neg = row.neg as u64;
     ((place + head + pos + neg) % 4294967296) as u32
+}
+
+// The place of the first literal of row n.
+pub fn place_of(page: &[u8], n: u16) -> u32
+    ensures { λ r. ⌜ r ≡ literalPlace (now (page .entry)) n ⌝ }
+{
+    let mut place = first_place(page);
+    let mut r = 0;
+    while r < n {
+        place = place_after(row_from(page, r, place));
+        r += 1;
+    }
+    place
 }
 
 // Each of the n literals from `from` on is in s.

@@ -1,15 +1,14 @@
 -- `rows::all_in` goes through the literals and stops at the first that is not in s. What is kept: the answer for all of them is the answer for
 -- those that are left. Assumes nothing.
 use mathlib.Core.Path.{_≡_, refl, sym, _∙_}
-use Prim.Native.Nat.{_+_}
+use Prim.Native.Nat.{_+_, _-_}
 use native.Mathlib.Omega.{arith}
 use denote.Ref.{now}
 use borrow.Author.Tests.{not-true, not-false}
 use Rattle.atoms.specs.Atoms.{has}
 use Rattle.lpod.specs.Satisfied.{allIn}
 use Rattle.page.specs.Program.{literals}
-use Rattle.page.proofs.Pass.{every-go, every-stop, every-none}
-use Rattle.page.proofs.Literals.{literals-step, literals-none}
+use Rattle.page.proofs.Scan.{literals-step, literals-none, every-go, every-stop, every-none}
 use Rattle.page.proofs.rows.all_in.Statement.{statement}
 use Rattle.page.proofs.rows.all_in.Tie as tie
 
@@ -33,8 +32,8 @@ unfolding allIn
 returns c =
     let h = c .before .before .before .before .loop in
     let a = c .before .before .before .before .before .before .args in
-    sym (h .inv .1 ∙ every-stop (has (a .s)) (literals-step (now (a .page)) (h .i) (h .left) _ (omega arith) (c .before .before .byte-at .ensures))
-    (c .before .holds .ensures) (not-true _ (c .if1 .taken)))
+    sym (h .inv .1 ∙ every-stop (has (a .s)) _ _ _ (literals-step (now (a .page)) (h .i) (h .left) (h .left - 1) (omega arith) _ (c .before .before .byte-at .ensures))
+    (sym (c .before .holds .ensures) ∙ not-true _ (c .if1 .taken)))
 
 add-i : tie.Need-add-i Inv-loop μ-loop
 add-i c = omega arith
@@ -51,8 +50,8 @@ loop-again c =
     let h = c .before .before .before .before .loop in
     let a = c .before .before .before .before .before .before .args in (
       omega arith,
-      h .inv .1 ∙ every-go (has (a .s)) (literals-step (now (a .page)) (h .i) (h .left) _ (omega arith) (c .before .before .byte-at .ensures))
-          (c .before .holds .ensures) (not-false _ (c .if1 .left)),
+      h .inv .1 ∙ every-go (has (a .s)) _ _ _ (literals-step (now (a .page)) (h .i) (h .left) (h .left - 1) (omega arith) _ (c .before .before .byte-at .ensures))
+          (sym (c .before .holds .ensures) ∙ not-false _ (c .if1 .left)),
     )
 
 returns-2 : tie.Need-returns-2 Inv-loop μ-loop
@@ -60,7 +59,7 @@ unfolding allIn
 returns-2 c =
     let h = c .before .loop in
     let a = c .before .before .before .args in
-    sym (h .inv .1 ∙ every-none (has (a .s)) (literals-none (now (a .page)) (h .i) (h .left) (omega arith)))
+    sym (h .inv .1 ∙ every-none (has (a .s)) _ (literals-none (now (a .page)) (h .i) (h .left) (omega arith)))
 
 pub all-in-spec : {M : Type 1} → statement M
 all-in-spec =

@@ -6,8 +6,8 @@ use native.Mathlib.Omega.{arith}
 use denote.Ref.{now}
 use Rattle.lpod.specs.Degree.{place}
 use Rattle.page.specs.Program.{literals}
-use Rattle.page.proofs.Pass.{place-go, place-stop, place-none}
-use Rattle.page.proofs.Literals.{literals-step, literals-none}
+use Rattle.page.proofs.Scan.{literals-step, literals-none}
+use Rattle.page.proofs.Literals.{place-go, place-stop, place-none}
 use Rattle.page.proofs.rows.first_in.Statement.{statement}
 use Rattle.page.proofs.rows.first_in.Tie as tie
 
@@ -42,8 +42,8 @@ returns : tie.Need-returns Inv-loop μ-loop
 returns c =
     let h = c .before .before .before .before .loop in
     let a = c .before .before .before .before .before .before .args in
-    sym (h .inv .2 ∙ place-stop (a .s) _ (literals-step (now (a .page)) (h .i) (h .left) _ (omega arith) (c .before .before .byte-at .ensures))
-    (c .before .holds .ensures) (c .if1 .taken))
+    sym (h .inv .2 ∙ place-stop (a .s) _ (literals-step (now (a .page)) (h .i) (h .left) (h .left - 1) (omega arith) _ (c .before .before .byte-at .ensures))
+    (sym (c .before .holds .ensures) ∙ c .if1 .taken))
 
 add-i : tie.Need-add-i Inv-loop μ-loop
 add-i c = omega arith
@@ -60,8 +60,8 @@ loop-again c =
     let a = c .before .before .before .before .before .before .args in (
       omega arith,
       omega arith,
-      h .inv .2 ∙ place-go (a .s) (a .n - h .left + 1) (literals-step (now (a .page)) (h .i) (h .left) _ (omega arith) (c .before .before .byte-at .ensures))
-          (c .before .holds .ensures) (c .if1 .left) (a .n - (h .left - 1) + 1) (omega arith),
+      h .inv .2 ∙ place-go (a .s) (a .n - h .left + 1) (literals-step (now (a .page)) (h .i) (h .left) (h .left - 1) (omega arith) _ (c .before .before .byte-at .ensures))
+          (sym (c .before .holds .ensures) ∙ c .if1 .left) (a .n - (h .left - 1) + 1) (omega arith),
     )
 
 returns-2 : tie.Need-returns-2 Inv-loop μ-loop

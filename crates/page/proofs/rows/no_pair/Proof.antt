@@ -2,14 +2,13 @@
 -- are left. Assumes nothing.
 use mathlib.Core.Path.{_≡_, sym, ap, _∙_}
 use mathlib.Core.Bool.{_&&_, not}
-use Prim.Native.Nat.{_+_, _*_, _^_, _≤_}
+use Prim.Native.Nat.{_+_, _*_, _-_, _^_, _≤_}
 use native.Mathlib.Omega.{arith}
 use denote.Ref.{now}
 use Rattle.atoms.specs.Atoms.{has}
 use Rattle.lpod.specs.Satisfied.{noPair}
 use Rattle.page.specs.Program.{pairsFrom, pairsOf}
-use Rattle.page.proofs.Pass.{every-go, every-stop, every-none}
-use Rattle.page.proofs.Literals.{pairs-step, pairs-none}
+use Rattle.page.proofs.Scan.{pairs-step, pairs-none, every-go, every-stop, every-none}
 use Rattle.page.proofs.rows.no_pair.Statement.{statement}
 use Rattle.page.proofs.rows.no_pair.Tie as tie
 
@@ -49,8 +48,8 @@ unfolding noPair
 returns c =
     let h = c .before .before .before .before .before .loop in
     let a = c .before .before .before .before .before .before .before .before .before .args in
-    sym (h .inv .1 ∙ every-stop (λ q. not (has (a .s) (q .one) && has (a .s) (q .other))) (pairs-step (now (a .page)) (h .at) (h .left) _ _ (omega arith)
-    (c .before .before .before .byte-at .ensures) (c .before .before .byte-at2 .ensures)) (ap not (c .before .both-in .ensures)) (ap not (c .if1 .taken)))
+    sym (h .inv .1 ∙ every-stop (λ q. not (has (a .s) (q .one) && has (a .s) (q .other))) _ _ _ (pairs-step (now (a .page)) (h .at) (h .left) (h .left - 1) (omega arith) _ _
+    (c .before .before .before .byte-at .ensures) (c .before .before .byte-at2 .ensures)) (ap not (sym (c .before .both-in .ensures) ∙ c .if1 .taken)))
 
 add-at : tie.Need-add-at Inv-loop μ-loop
 add-at c = omega arith
@@ -67,8 +66,8 @@ loop-again c =
     let h = c .before .before .before .before .before .loop in
     let a = c .before .before .before .before .before .before .before .before .before .args in (
       omega arith,
-      h .inv .1 ∙ every-go (λ q. not (has (a .s) (q .one) && has (a .s) (q .other))) (pairs-step (now (a .page)) (h .at) (h .left) _ _ (omega arith)
-          (c .before .before .before .byte-at .ensures) (c .before .before .byte-at2 .ensures)) (ap not (c .before .both-in .ensures)) (ap not (c .if1 .left)),
+      h .inv .1 ∙ every-go (λ q. not (has (a .s) (q .one) && has (a .s) (q .other))) _ _ _ (pairs-step (now (a .page)) (h .at) (h .left) (h .left - 1) (omega arith) _ _
+          (c .before .before .before .byte-at .ensures) (c .before .before .byte-at2 .ensures)) (ap not (sym (c .before .both-in .ensures) ∙ c .if1 .left)),
     )
 
 returns-2 : tie.Need-returns-2 Inv-loop μ-loop
@@ -76,7 +75,7 @@ unfolding noPair
 returns-2 c =
     let h = c .before .loop in
     let a = c .before .before .before .before .before .args in
-    sym (h .inv .1 ∙ every-none (λ q. not (has (a .s) (q .one) && has (a .s) (q .other))) (pairs-none (now (a .page)) (h .at) (h .left) (omega arith)))
+    sym (h .inv .1 ∙ every-none (λ q. not (has (a .s) (q .one) && has (a .s) (q .other))) _ (pairs-none (now (a .page)) (h .at) (h .left) (omega arith)))
 
 pub no-pair-spec : {M : Type 1} → statement M
 no-pair-spec =

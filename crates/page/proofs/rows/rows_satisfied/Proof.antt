@@ -7,7 +7,7 @@ use denote.Ref.{now}
 use borrow.Author.Tests.{not-true, not-false}
 use Rattle.lpod.specs.Satisfied.{satisfies, satisfiesAll}
 use Rattle.page.specs.Program.{rowsFrom, rowsOf, literalPlace}
-use Rattle.page.proofs.Pass.{every-go, every-stop, every-none}
+use Rattle.page.proofs.Scan.{every-go, every-stop, every-none}
 use Rattle.page.proofs.RowSteps.{at-first, at-next, rest-first, rest-step, rest-none}
 use Rattle.page.proofs.rows.rows_satisfied.Statement.{statement}
 use Rattle.page.proofs.rows.rows_satisfied.Tie as tie
@@ -45,8 +45,8 @@ returns c =
     let page = c .before .before .before .before .before .before .before in
     let s = page .before .args .s in
     let row = c .before .before .row-from in
-    sym (h .inv .2 ∙ every-stop (satisfies s) (rest-step _ (page .shared-slice-known .given) (h .n) _ (row .result) (omega arith) (h .inv .1) (row .ensures)
-    _ _ (omega arith) refl) (c .before .satisfied .ensures) (not-true _ (c .if1 .taken)))
+    sym (h .inv .2 ∙ every-stop (satisfies s) _ _ _ (rest-step _ (page .shared-slice-known .given) (h .n) _ (row .result) (omega arith) (h .inv .1) (row .ensures)
+    _ _ (omega arith) refl) (sym (c .before .satisfied .ensures) ∙ not-true _ (c .if1 .taken)))
 
 place-after-requires : tie.Need-place-after-requires Inv-loop μ-loop
 place-after-requires c κs = tt
@@ -66,8 +66,8 @@ loop-again c =
     let row = c .before .before .before .row-from in (
       omega arith,
       at-next _ (page .shared-slice-known .given) (h .n) _ (row .result) (omega arith) (h .inv .1) (row .ensures) _ (c .place-after .ensures),
-      h .inv .2 ∙ every-go (satisfies s) (rest-step _ (page .shared-slice-known .given) (h .n) _ (row .result) (omega arith) (h .inv .1) (row .ensures)
-          _ _ (omega arith) (c .place-after .ensures)) (c .before .before .satisfied .ensures) (not-false _ (c .before .if1 .left)),
+      h .inv .2 ∙ every-go (satisfies s) _ _ _ (rest-step _ (page .shared-slice-known .given) (h .n) _ (row .result) (omega arith) (h .inv .1) (row .ensures)
+          _ _ (omega arith) (c .place-after .ensures)) (sym (c .before .before .satisfied .ensures) ∙ not-false _ (c .before .if1 .left)),
     )
 
 returns-2 : tie.Need-returns-2 Inv-loop μ-loop
@@ -75,7 +75,7 @@ unfolding satisfiesAll
 returns-2 c =
     let h = c .before .loop in
     let a = c .before .before .before .before .before .args in
-    sym (h .inv .2 ∙ every-none (satisfies (a .s)) (rest-none (now (a .page)) (h .n) (h .place) _ (omega arith)))
+    sym (h .inv .2 ∙ every-none (satisfies (a .s)) _ (rest-none (now (a .page)) (h .n) (h .place) _ (omega arith)))
 
 pub rows-satisfied-spec : {M : Type 1} → statement M
 rows-satisfied-spec =

@@ -6,7 +6,7 @@ use lib.Dec.{eqb}
 use denote.Ref.{now}
 use borrow.Author.Needs.{needs}
 use Rattle.page.specs.Program.{literals}
-use Rattle.page.proofs.Pass.{some-place}
+use Rattle.page.proofs.Literals.{some-place}
 use Rattle.page.proofs.rows.some_in.Statement.{statement}
 use Rattle.page.proofs.rows.some_in.Tie as tie
 

@@ -13,7 +13,7 @@ use Rattle.lpod.specs.Rule.{rules}
 use Rattle.lpod.specs.HereThere.{model, noSmaller}
 use Rattle.lpod.proofs.Lists.{numbers-next, numbers-done}
 use Rattle.page.specs.Program.{program}
-use Rattle.page.proofs.Pass.{every-go, every-stop, every-none}
+use Rattle.page.proofs.Scan.{every-go, every-stop, every-none}
 use Rattle.routes.proofs.here_there.none_smaller.Statement.{statement}
 use Rattle.routes.proofs.here_there.none_smaller.Tie as tie
 
@@ -41,7 +41,7 @@ returns : tie.Need-returns Inv-loop μ-loop
 returns c =
     let h = c .before .before .before .loop in
     let t = c .before .part-models in
-    sym (h .inv .1 ∙ every-stop (fails _ _ _) (numbers-next (h .here) _ (omega arith)) (ap not (t .ensures)) (ap not (c .if1 .taken)))
+    sym (h .inv .1 ∙ every-stop (fails _ _ _) _ _ _ (numbers-next (h .here) _ (omega arith)) (ap not (sym (t .ensures) ∙ c .if1 .taken)))
 
 add-here : tie.Need-add-here Inv-loop μ-loop
 add-here c = omega arith
@@ -53,12 +53,12 @@ loop-again : tie.Need-loop-again Inv-loop μ-loop
 loop-again c =
     let h = c .before .before .before .loop in
     let t = c .before .part-models in
-    (omega arith, h .inv .1 ∙ every-go (fails _ _ _) (numbers-next (h .here) _ (omega arith)) (ap not (t .ensures)) (ap not (c .if1 .left)))
+    (omega arith, h .inv .1 ∙ every-go (fails _ _ _) _ _ _ (numbers-next (h .here) _ (omega arith)) (ap not (sym (t .ensures) ∙ c .if1 .left)))
 
 returns-2 : tie.Need-returns-2 Inv-loop μ-loop
 returns-2 c =
     let h = c .before .loop in
-    sym (h .inv .1 ∙ every-none (fails _ _ _) (numbers-done (h .here) _ (omega arith)))
+    sym (h .inv .1 ∙ every-none (fails _ _ _) _ (numbers-done (h .here) _ (omega arith)))
 
 pub none-smaller-spec : {M : Type 1} → statement M
 none-smaller-spec =

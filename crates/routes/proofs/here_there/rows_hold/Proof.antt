@@ -9,7 +9,7 @@ use borrow.Author.Tests.{not-true, not-false}
 use Rattle.lpod.specs.Rule.{Rule}
 use Rattle.lpod.specs.HereThere.{rowHolds, model}
 use Rattle.page.specs.Program.{rowsFrom, rowsOf, literalPlace}
-use Rattle.page.proofs.Pass.{every-go, every-stop, every-none}
+use Rattle.page.proofs.Scan.{every-go, every-stop, every-none}
 use Rattle.page.proofs.RowSteps.{at-first, at-next, rest-first, rest-step, rest-none}
 use Rattle.routes.proofs.here_there.rows_hold.Statement.{statement}
 use Rattle.routes.proofs.here_there.rows_hold.Tie as tie
@@ -47,8 +47,8 @@ returns c =
     let page = c .before .before .before .before .before .before .before in
     let a = page .before .args in
     let row = c .before .before .row-from in
-    sym (h .inv .2 ∙ every-stop (rowHolds (a .here) (a .there)) (rest-step _ (page .shared-slice-known .given) (h .n) _ (row .result) (omega arith) (h .inv .1) (row .ensures)
-    _ _ (omega arith) refl) (c .before .row-holds .ensures) (not-true _ (c .if1 .taken)))
+    sym (h .inv .2 ∙ every-stop (rowHolds (a .here) (a .there)) _ _ _ (rest-step _ (page .shared-slice-known .given) (h .n) _ (row .result) (omega arith) (h .inv .1) (row .ensures)
+    _ _ (omega arith) refl) (sym (c .before .row-holds .ensures) ∙ not-true _ (c .if1 .taken)))
 
 place-after-requires : tie.Need-place-after-requires Inv-loop μ-loop
 place-after-requires c κs = tt
@@ -68,8 +68,8 @@ loop-again c =
     let row = c .before .before .before .row-from in (
       omega arith,
       at-next _ (page .shared-slice-known .given) (h .n) _ (row .result) (omega arith) (h .inv .1) (row .ensures) _ (c .place-after .ensures),
-      h .inv .2 ∙ every-go (rowHolds (a .here) (a .there)) (rest-step _ (page .shared-slice-known .given) (h .n) _ (row .result) (omega arith) (h .inv .1) (row .ensures)
-          _ _ (omega arith) (c .place-after .ensures)) (c .before .before .row-holds .ensures) (not-false _ (c .before .if1 .left)),
+      h .inv .2 ∙ every-go (rowHolds (a .here) (a .there)) _ _ _ (rest-step _ (page .shared-slice-known .given) (h .n) _ (row .result) (omega arith) (h .inv .1) (row .ensures)
+          _ _ (omega arith) (c .place-after .ensures)) (sym (c .before .before .row-holds .ensures) ∙ not-false _ (c .before .if1 .left)),
     )
 
 returns-2 : tie.Need-returns-2 Inv-loop μ-loop
@@ -77,7 +77,7 @@ unfolding model
 returns-2 c =
     let h = c .before .loop in
     let a = c .before .before .before .before .before .args in
-    sym (h .inv .2 ∙ every-none (rowHolds (a .here) (a .there)) (rest-none (now (a .page)) (h .n) (h .place) _ (omega arith)))
+    sym (h .inv .2 ∙ every-none (rowHolds (a .here) (a .there)) _ (rest-none (now (a .page)) (h .n) (h .place) _ (omega arith)))
 
 pub rows-hold-spec : {M : Type 1} → statement M
 rows-hold-spec =
