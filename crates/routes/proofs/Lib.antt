@@ -1,3 +1,4 @@
 pub mod Rounds
 pub mod FourTests
 pub mod HeadsHold
+pub mod Verdicts

@@ -7,6 +7,9 @@ ghost use Rattle.lpod.specs.Rule.{rules};
 ghost use Rattle.lpod.specs.HereThere as means;
 ghost use Rattle.page.specs.Program.{rowsOf, program};
 ghost use Rattle.page.specs.Rows.{ruleOf};
+ghost use Rattle.routes.specs.Tests.{HereThereSays};
+use super::Verdict;
+use page::accept;
 use page::fields;
 use page::rows;
 
@@ -101,4 +104,16 @@ pub fn is_here_there(page: &[u8], flags: u16, set: u16) -> bool
         return false;
     }
     none_smaller(page, flags, set)
+}
+
+// The here-and-there test of a set: refusals 1 to 9, then the answer.
+pub fn here_there_test(page: &[u8], flags: u16, set: u16) -> Verdict
+    ensures { λ r. ⌜ HereThereSays (now (page .entry)) flags set r ⌝ }
+{
+    let no = accept::test_no(page, flags, set);
+    if no != 0 {
+        return Verdict { no, yes: false };
+    }
+    let yes = is_here_there(page, flags, set);
+    Verdict { no: 0, yes }
 }

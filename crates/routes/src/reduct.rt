@@ -7,6 +7,9 @@ ghost use Rattle.lpod.specs.Least as means;
 ghost use Rattle.lpod.specs.Answer.{answer};
 ghost use Rattle.page.specs.Program.{rowsOf, program};
 ghost use Rattle.page.specs.Rows.{ruleOf};
+ghost use Rattle.routes.specs.Tests.{ReductSays};
+use super::Verdict;
+use page::accept;
 use page::fields;
 use page::rows;
 
@@ -81,4 +84,16 @@ pub fn is_answer(page: &[u8], flags: u16, set: u16) -> bool
         return false;
     }
     least_of(page, flags, set) == set
+}
+
+// The reduct test of a set: refusals 1 to 9, then the answer.
+pub fn reduct_test(page: &[u8], flags: u16, set: u16) -> Verdict
+    ensures { λ r. ⌜ ReductSays (now (page .entry)) flags set r ⌝ }
+{
+    let no = accept::test_no(page, flags, set);
+    if no != 0 {
+        return Verdict { no, yes: false };
+    }
+    let yes = is_answer(page, flags, set);
+    Verdict { no: 0, yes }
 }
