@@ -1,25 +1,25 @@
 -- An answer set lies between the flags and flags ∪ head atoms. A raised atom's row has no body, so the set holds the atom; and the least
 -- closed set holds only atoms that some rule of the reduct gives, which are head atoms or raised. Assumes nothing.
 use mathlib.Core.Path.{_≡_, refl, sym, ap, _∙_, subst}
-use mathlib.Core.Bool.{Bool, _&&_, _||_, not, or-false}
+use mathlib.Core.Bool.{or-false}
 use mathlib.Core.Logic.{_⊎_, inl, inr, ⊎-elim}
 use mathlib.Core.List.{List, [], _∷_, _++_, List·Memᴰ, List·Memᴰ·cases-cons, List·Memᴰ·append-cases, Memᴰ·append-left, Memᴰ·append-right}
 use Prim.Native.Nat.{ℕ, _^_, _<_}
 use native.Mathlib.Omega.{arith}
-use lib.Dec.{T, eqb, eqb→eq}
+use lib.Dec.{T}
 use Rattle.atoms.specs.Atoms.{has, insert, union, Inside}
-use Rattle.atoms.proofs.Truth.{and-l, and-r, or-l, or-r, or-cases}
+use Rattle.atoms.proofs.Truth.{or-l, or-r}
 use Rattle.atoms.proofs.Bits.{has-or, has-below, in-insert, at-insert}
 use Rattle.lpod.specs.Lists.{every, some, keep, below}
 use Rattle.lpod.specs.Rule.{Rule, Program, rules, raised, fact, mostAtoms, setOf, headAtoms}
-use Rattle.lpod.specs.Satisfied.{allIn, someIn, noneIn, bodyHolds, satisfies, satisfiesAll, noPair}
+use Rattle.lpod.specs.Satisfied.{allIn, someIn, noneIn, bodyHolds, satisfies}
 use Rattle.lpod.specs.Reduct.{Definite, reductRow, reduct}
-use Rattle.lpod.specs.Least.{least, Closed}
+use Rattle.lpod.specs.Least.{Closed}
 use Rattle.lpod.specs.Answer.{answer}
 use Rattle.lpod.proofs.Lists.{in-map, map-in, in-keep, keep-in, numbers-in, in-gather}
 use Rattle.lpod.proofs.LeastClosed.{least-inside}
 use Rattle.lpod.proofs.FirstAtom.{row-of}
-use Rattle.lpod.proofs.DegreesInRange.{answer-satisfies}
+use Rattle.lpod.proofs.AnswerParts.{answer-says, answer-satisfies}
 
 -- a list as a set
 of-list : (l : List ℕ) (a : ℕ) → List·Memᴰ a l → T (has (setOf l) a)
@@ -77,9 +77,5 @@ module _ (p : Program) (s : ℕ) (t : T (answer p s)) where
       (List·Memᴰ·append-cases (p .rows) (g .1 .0))
 
   pub inside-heads : Inside s (union (p .flags) (setOf (headAtoms (p .rows))))
-  unfolding answer top
-  inside-heads =
-      subst (λ (x : ℕ). Inside x top)
-      (eqb→eq (least (reduct (rules p) s)) s
-      (and-r (satisfiesAll s (rules p)) _ (and-r (noPair (p .pairs) s) (satisfiesAll s (rules p) && eqb (least (reduct (rules p) s)) s) t)))
-      (least-inside (reduct (rules p) s) top top-closed)
+  unfolding top
+  inside-heads = subst (λ (x : ℕ). Inside x top) (answer-says p s .0 t .supported) (least-inside (reduct (rules p) s) top top-closed)

@@ -2,32 +2,23 @@
 -- atoms; the row of a raised atom has degree 1. An answer set satisfies its rows, so where a body holds some head atom is in it.
 -- Assumes nothing.
 use mathlib.Core.Path.{_≡_, refl, sym, ap, _∙_, subst}
-use mathlib.Core.Bool.{Bool, true, false, _&&_, _||_, not, cond}
+use mathlib.Core.Bool.{Bool, true, false, _||_, cond}
 use mathlib.Core.Logic.{_⊎_, inl, inr, ⊎-elim}
 use mathlib.Core.List.{List, [], _∷_, _++_, List·Memᴰ, List·Memᴰ·cases-cons, List·Memᴰ·append-cases, Memᴰ·append-right}
 use Prim.Native.Nat.{ℕ, zero, suc, _+_, _≤_, _<_, max}
 use native.Mathlib.Omega.{arith}
-use lib.Dec.{T, eqb}
+use lib.Dec.{T}
 use lib.ListN.{length}
 use Rattle.atoms.specs.Atoms.{has}
-use Rattle.atoms.proofs.Truth.{and-l, and-r, or-cases, imp-at, true-yes, false-no}
+use Rattle.atoms.proofs.Truth.{imp-at, true-yes}
 use Rattle.lpod.specs.Lists.{some, keep, below}
 use Rattle.lpod.specs.Rule.{Rule, Program, rules, raised, fact, mostAtoms}
-use Rattle.lpod.specs.Satisfied.{someIn, bodyHolds, satisfies, satisfiesAll, noPair}
-use Rattle.lpod.specs.Reduct.{reduct}
-use Rattle.lpod.specs.Least.{least}
+use Rattle.lpod.specs.Satisfied.{someIn, bodyHolds, satisfies}
 use Rattle.lpod.specs.Answer.{answer}
 use Rattle.lpod.specs.Degree.{place, degree}
 use Rattle.lpod.specs.Preferred.{longest}
-use Rattle.lpod.proofs.Lists.{every-at, in-map}
-
--- an answer set satisfies every rule
-pub answer-satisfies : (p : Program) (s : ℕ) → T (answer p s) → (r : Rule) → List·Memᴰ r (rules p) → T (satisfies s r)
-unfolding answer satisfiesAll
-answer-satisfies p s t r m =
-    every-at (satisfies s) (rules p)
-    (and-l (satisfiesAll s (rules p)) (eqb (least (reduct (rules p) s)) s) (and-r (noPair (p .pairs) s) (satisfiesAll s (rules p) && eqb (least (reduct (rules p) s)) s) t))
-    r m
+use Rattle.lpod.proofs.Lists.{in-map}
+use Rattle.lpod.proofs.AnswerParts.{answer-satisfies}
 
 -- ---- places
 place-from : (k : ℕ) (l : List ℕ) (s : ℕ) → T (someIn l s) → k ≤ place k l s

@@ -75,3 +75,16 @@ row-of r I d m = go (noneIn (r .neg) I) (subst (λ (D : List Definite). List·Me
     go : (b : Bool) → List·Memᴰ d (cond b (ifs (firstIn (r .head) I) (r .pos)) []) → List·Memᴰ (d .atom) (r .head) × T (has I (d .atom))
     go true n = first-of (r .head) (r .pos) I d n
     go false n = elim n [ ]
+
+-- its body is the row's positive body
+ifs-body : (cs b : List ℕ) (d : Definite) → List·Memᴰ d (ifs cs b) → d .body ≡ b
+unfolding ifs
+ifs-body [] b d m = elim m [ ]
+ifs-body (c ∷ cs) b d m = ⊎-elim (λ e. ap (λ (x : Definite). x .body) e) (λ n. ifs-body cs b d n) (List·Memᴰ·cases-cons m)
+
+pub row-body : (r : Rule) (I : ℕ) (d : Definite) → List·Memᴰ d (reductRow r I) → d .body ≡ r .pos
+row-body r I d m = go (noneIn (r .neg) I) (subst (λ (D : List Definite). List·Memᴰ d D) (row-first r I) m)
+  where
+    go : (b : Bool) → List·Memᴰ d (cond b (ifs (firstIn (r .head) I) (r .pos)) []) → d .body ≡ r .pos
+    go true n = ifs-body (firstIn (r .head) I) (r .pos) d n
+    go false n = elim n [ ]

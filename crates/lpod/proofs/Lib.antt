@@ -1,5 +1,6 @@
 pub mod Lists
 pub mod LeastClosed
+pub mod AnswerParts
 pub mod FirstAtom
 pub mod ReductIsHereThere
 pub mod OrderedDisjunction
@@ -14,3 +15,4 @@ pub mod PickIsBest
 pub mod Between
 pub mod KnownPages
 pub mod Firing
+pub mod EmptyAlone

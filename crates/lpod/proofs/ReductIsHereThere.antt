@@ -9,7 +9,7 @@ use Prim.Native.Nat.{ℕ, _≤_, _<_}
 use native.Mathlib.Omega.{arith}
 use native.Mathlib.Decide.{ℕ-discrete}
 use lib.Arith.{lt-of-le-ne}
-use lib.Dec.{T, eqb, eqb→eq, eqb-refl}
+use lib.Dec.{T}
 use Rattle.atoms.specs.Atoms.{has, Inside, inside}
 use Rattle.atoms.proofs.Truth.{and-l, and-r, both, not-both, not-from, same-yes, true-yes, false-no}
 use Rattle.atoms.proofs.Bits.{inside-le, inside-test, test-inside}
@@ -22,6 +22,7 @@ use Rattle.lpod.specs.Answer.{answer}
 use Rattle.lpod.specs.HereThere.{headHolds, rowHolds, model, noSmaller, hereThere}
 use Rattle.lpod.proofs.Lists.{every-at, every-made, in-gather, gather-in, in-numbers, numbers-in}
 use Rattle.lpod.proofs.LeastClosed.{all-mono, least-closed, least-inside}
+use Rattle.lpod.proofs.AnswerParts.{answer-says}
 use Rattle.lpod.proofs.FirstAtom.{firstIn, ifs, row-first, row-of}
 
 -- ---- one head
@@ -117,28 +118,30 @@ module _ (p : Program) (I : ℕ) where
   P = rules p
 
   to : T (answer p I) → T (hereThere p I)
-  unfolding answer hereThere P
+  unfolding hereThere P
   to t =
-      let u = and-r (noPair (p .pairs) I) (satisfiesAll I P && eqb (least (reduct P I)) I) t in
-      let s : T (satisfiesAll I P) = and-l (satisfiesAll I P) (eqb (least (reduct P I)) I) u in
-      let e : least (reduct P I) ≡ I = eqb→eq (least (reduct P I)) I (and-r (satisfiesAll I P) _ u) in
-      both (noPair (p .pairs) I) _ (and-l (noPair (p .pairs) I) _ t)
-      (both (model P I I) _ (closed-model P I I (λ i h. h) s (self-closed P I))
-      (smaller-none P I (λ H l f h. let k : I ≤ H = inside-le I H (subst (λ (x : ℕ). Inside x H) e (least-inside (reduct P I) H (model-closed P H I h))) in omega arith)))
+      let a = answer-says p I .0 t in
+      both (noPair (p .pairs) I) _ (a .pair)
+      (both (model P I I) _ (closed-model P I I (λ i h. h) (a .satisfied) (self-closed P I))
+      (smaller-none P I (λ H l f h. let k : I ≤ H = inside-le I H (subst (λ (x : ℕ). Inside x H) (a .supported) (least-inside (reduct P I) H (model-closed P H I h))) in omega arith)))
 
   from : T (hereThere p I) → T (answer p I)
-  unfolding answer hereThere P
+  unfolding hereThere P
   from t =
       let u = and-r (noPair (p .pairs) I) (model P I I && noSmaller P I) t in
       let s : T (satisfiesAll I P) = model-satisfies P I I (and-l (model P I I) (noSmaller P I) u) in
-      both (noPair (p .pairs) I) _ (and-l (noPair (p .pairs) I) _ t)
-      (both (satisfiesAll I P) _ s (go s (and-r (model P I I) _ u) (least-inside (reduct P I) I (self-closed P I)) (ℕ-discrete (least (reduct P I)) I)))
+      answer-says p I .1
+      (record {
+        pair = and-l (noPair (p .pairs) I) _ t;
+        satisfied = s;
+        supported = go s (and-r (model P I I) _ u) (least-inside (reduct P I) I (self-closed P I)) (ℕ-discrete (least (reduct P I)) I);
+      })
     where
       L : ℕ
       L = least (reduct P I)
 
-      go : T (satisfiesAll I P) → T (noSmaller P I) → Inside L I → Dec (L ≡ I) → T (eqb L I)
-      go s n i (yes e) = subst (λ (x : ℕ). T (eqb L x)) e (eqb-refl L)
+      go : T (satisfiesAll I P) → T (noSmaller P I) → Inside L I → Dec (L ≡ I) → L ≡ I
+      go s n i (yes e) = e
       go s n i (no e) = absurd (none-smaller P I n L (lt-of-le-ne (inside-le L I i) e) i (closed-model P L I i s (least-closed (reduct P I))))
 
   pub reduct-is-here-there : answer p I ≡ hereThere p I

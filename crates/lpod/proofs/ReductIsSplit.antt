@@ -23,6 +23,7 @@ use Rattle.lpod.specs.Answer.{answer}
 use Rattle.lpod.specs.Split.{Option, optionsFrom, optionsOf, options, choices, optionCount, splitNumber, glRow, glReduct, barHolds, splitAnswer, splitCount}
 use Rattle.lpod.proofs.Lists.{in-keep, keep-in, in-gather, gather-in, in-map, map-in, one-of, of-one}
 use Rattle.lpod.proofs.LeastClosed.{all-mono, least-closed, least-inside, is-least}
+use Rattle.lpod.proofs.AnswerParts.{answer-says}
 use Rattle.lpod.proofs.RowOptions.{Fit, row-fit, row-own}
 use Rattle.lpod.proofs.ReductIsHereThere.{self-closed}
 
@@ -129,34 +130,34 @@ module _ (p : Program) (s : ℕ) where
   counted C = noPair (p .pairs) s && splitAnswer C s
 
   to : T (answer p s) → 0 < splitCount p s
-  unfolding answer splitCount splitAnswer P Q counted
+  unfolding splitCount splitAnswer P Q counted
   to t =
-      let u = and-r Q (satisfiesAll s P && eqb (least (reduct P s)) s) t in
-      let e : least (reduct P s) ≡ s = eqb→eq (least (reduct P s)) s (and-r (satisfiesAll s P) _ u) in
-      let c = choose P s (and-l (satisfiesAll s P) (eqb (least (reduct P s)) s) u) in
+      let a = answer-says p s .0 t in
+      let c = choose P s (a .satisfied) in
       let l : least (glReduct (c .choice) s) ≡ s =
       is-least (glReduct (c .choice) s) s .1
-      (record { itself = c .closed; smallest = λ H k. subst (λ (x : ℕ). Inside x H) e (least-inside (reduct P s) H (λ d m. k d (c .covers d m))) }) in
+      (record { itself = c .closed; smallest = λ H k. subst (λ (x : ℕ). Inside x H) (a .supported) (least-inside (reduct P s) H (λ d m. k d (c .covers d m))) }) in
       of-one (keep counted (choices P)) (c .choice)
       (keep-in counted (choices P) (c .choice) (picks-in P (c .choice) (c .picks))
-      (both Q (splitAnswer (c .choice) s) (and-l Q _ t) (both (every (barHolds s) (c .choice)) _ (c .bars) (rw l (eqb-refl s)))))
+      (both Q (splitAnswer (c .choice) s) (a .pair) (both (every (barHolds s) (c .choice)) _ (c .bars) (rw l (eqb-refl s)))))
 
   from : 0 < splitCount p s → T (answer p s)
-  unfolding answer splitCount splitAnswer P Q counted
+  unfolding splitCount splitAnswer P Q counted
   from h =
       let c = one-of (keep counted (choices P)) h in
       let i = in-keep counted (choices P) (c .0) (c .1) in
       let C = c .0 in
       let u = and-r Q (every (barHolds s) C && eqb (least (glReduct C s)) s) (i .1) in
       let e : least (glReduct C s) ≡ s = eqb→eq (least (glReduct C s)) s (and-r (every (barHolds s) C) _ u) in
-      let w = own P C s (in-picks P C (i .0)) (and-l (every (barHolds s) C) (eqb (least (glReduct C s)) s) u)
+      let w =
+      own P C s (in-picks P C (i .0)) (and-l (every (barHolds s) C) (eqb (least (glReduct C s)) s) u)
       (subst (λ (x : ℕ). Closed (glReduct C s) x) e (least-closed (glReduct C s))) in
       let L = least (reduct P s) in
       let down : Inside L s = least-inside (reduct P s) s (self-closed P s) in
       let up : Inside s L =
       subst (λ (x : ℕ). Inside x L) e
       (least-inside (glReduct C s) L (λ d m a. least-closed (reduct P s) d (w .1 d m (all-mono (d .body) L s down a)) a)) in
-      both Q (satisfiesAll s P && eqb L s) (and-l Q _ (i .1)) (both (satisfiesAll s P) (eqb L s) (w .0) (rw (inside-both L s down up) (eqb-refl s)))
+      answer-says p s .1 (record { pair = and-l Q _ (i .1); satisfied = w .0; supported = inside-both L s down up })
 
   pub reduct-is-split : T (answer p s) ↔ (0 < splitCount p s)
   reduct-is-split = (to, from)
