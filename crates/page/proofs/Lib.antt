@@ -7,3 +7,4 @@ pub mod AcceptedAtoms
 pub mod Literals
 pub mod RowSteps
 pub mod ReaderSteps
+pub mod ReaderOwns

@@ -2,16 +2,16 @@
 -- none; on a refused page every step says so. Because there is a row n exactly where the page is accepted and n is below R, and a step goes on
 -- where there is one and stays where there is none. Then what an answer tells of the row in it. Assumes nothing.
 use mathlib.Core.Path.{_≡_, refl, sym, ap, _∙_}
-use mathlib.Core.Bool.{Bool, true, false, _&&_, cond, true≢false, false≢true}
-use mathlib.Core.List.{List, [], _∷_, _++_, map}
-use Prim.Native.Nat.{ℕ, zero, suc, _+_, _-_, _≤_, _<_}
+use mathlib.Core.Bool.{Bool, true, false, cond, true≢false, false≢true}
+use mathlib.Core.List.{List, _∷_, _++_, map}
+use Prim.Native.Nat.{ℕ, zero, suc, _+_, _≤_, _<_}
 use native.Mathlib.Omega.{arith}
 use native.Mathlib.Nat.{add-zero, zero-add, suc-add}
 use native.Mathlib.Numerals.{add-one}
-use lib.Dec.{T, ltb, eqb}
+use lib.Dec.{ltb, eqb}
 use lib.ListN.{replicate}
-use borrow.Author.Tests.{ltb-true, lt-ltb, le-ltb, eq-eqb, ne-eqb}
-use Rattle.atoms.proofs.Truth.{and-l, and-r, yes-true, true-yes}
+use borrow.Author.Tests.{ltb-true, lt-ltb, le-ltb, ne-eqb}
+use Rattle.atoms.proofs.Truth.{and-r, yes-true, true-yes}
 use Rattle.lpod.specs.Lists.{numbers, below}
 use Rattle.page.specs.Fields.{wordAt, rowCount}
 use Rattle.page.specs.Refusals.{pageNo}
@@ -72,13 +72,15 @@ refused-is-past page h n k = stays page n (row-refused page n h) k
 abbrev rowIn : Said → Rows.Row
 rowIn s = record { head = s .head; pos = s .pos; neg = s .neg; place = s .place }
 
-row-of : (page : List ℕ) (n : ℕ) (row : Rows.Row) (b : Bool) → said (Row row) ≡ cond b (rowThere page n) nothing → (b ≡ true) × (row ≡ rowFrom page n (literalPlace page n))
+row-of : (page : List ℕ) (n : ℕ) (row : Rows.Row) (b : Bool) → said (Row row) ≡ cond b (rowThere page n) nothing
+    → (b ≡ true) × (row ≡ rowFrom page n (literalPlace page n))
 unfolding said rowThere rowFrom
 row-of page n row true e = (refl, ap rowIn e)
 row-of page n row false e = absurd (true≢false (ap (λ (s : Said). s .more) e))
 
 -- an answer with a row: there is a row n, and it is that row
-pub read-row : (page : List ℕ) (n : ℕ) (row : Rows.Row) → said (Row row) ≡ rowSaid page n → (hasRow page n ≡ true) × (row ≡ rowFrom page n (literalPlace page n))
+pub read-row : (page : List ℕ) (n : ℕ) (row : Rows.Row) → said (Row row) ≡ rowSaid page n
+    → (hasRow page n ≡ true) × (row ≡ rowFrom page n (literalPlace page n))
 unfolding rowSaid
 read-row page n row e = row-of page n row (hasRow page n) e
 

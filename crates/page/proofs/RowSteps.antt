@@ -1,14 +1,13 @@
 -- The rows of a page, taken one at a time as code takes them: what the row in hand is, where the next one stands, and that places stay so small
--- that none goes round at 32 bits. A pass over the rows keeps `i ≡ literalPlace page n` and cites these laws: it
--- sees no offset. Assumes nothing.
+-- that none goes round at 32 bits. A pass over the rows keeps `i ≡ literalPlace page n` and cites these laws: it sees no offset. Assumes nothing.
 use mathlib.Core.Path.{_≡_, refl, ap, _∙_}
 use mathlib.Core.List.{List, [], _∷_, map}
 use Prim.Native.Nat.{ℕ, zero, suc, _+_, _*_, _-_, _≤_, _<_}
 use native.Mathlib.Omega.{arith}
 use native.Mathlib.Nat.{sub-zero}
+use native.Mathlib.Numerals.{add-one}
 use mir.Syntax.{w8}
 use mir.Val.{Fits}
-use native.Mathlib.Numerals.{sub-one, add-one}
 use Rattle.lpod.specs.Lists.{numbers}
 use Rattle.lpod.specs.Rule.{Rule}
 use Rattle.page.specs.Fields.{byteAt, wordAt, rowCount, literalsAt, rowsAt, headCount, posCount, negCount, literalsOf}

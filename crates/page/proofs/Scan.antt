@@ -106,13 +106,13 @@ module _ (Q rest : List Pair) (p : Pair) (s : Q ≡ p ∷ rest) where
   unfolding pairsHold every
   hold-crossed t = ap pairsHold s ∙ rw t
 
-  pub hold-shared : every (apart p) rest ≡ false → pairsHold Q ≡ false
+  pub hold-shared : (b : Bool) → b ≡ every (apart p) rest → b ≡ false → pairsHold Q ≡ false
   unfolding pairsHold allApart
-  hold-shared t = ap pairsHold s ∙ rw t (and-no (every inOrder (p ∷ rest)))
+  hold-shared b e t = ap pairsHold s ∙ rw (← e, t) (and-no (every inOrder (p ∷ rest)))
 
-  pub hold-go : inOrder p ≡ true → every (apart p) rest ≡ true → pairsHold Q ≡ pairsHold rest
+  pub hold-go : inOrder p ≡ true → (b : Bool) → b ≡ every (apart p) rest → b ≡ true → pairsHold Q ≡ pairsHold rest
   unfolding pairsHold every allApart
-  hold-go t u = ap pairsHold s ∙ rw (t, u)
+  hold-go t b e u = ap pairsHold s ∙ rw (t, ← e, u)
 
 pub hold-none : (Q : List Pair) → Q ≡ [] → pairsHold Q ≡ true
 unfolding pairsHold every allApart

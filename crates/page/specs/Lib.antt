@@ -1,7 +1,7 @@
 pub mod Fields
 pub mod Program
+pub mod Scan
 pub mod Refusals
 pub mod Letter
-pub mod Scan
 pub mod Rows
 pub mod Reader
