@@ -2,3 +2,11 @@ pub mod Rounds
 pub mod FourTests
 pub mod HeadsHold
 pub mod Verdicts
+pub mod SplitOption
+pub mod SplitRows
+pub mod SplitRound
+pub mod SplitNumber
+pub mod SplitSums
+pub mod SplitChoices
+pub mod SplitAccepted
+pub mod SplitCounts

@@ -1,1 +1,3 @@
 pub mod Tests
+pub mod Split
+pub mod Choice

@@ -2,6 +2,7 @@
 // word and set; a bad one gets the number of the first refusal and the answer no.
 pub mod here_there;
 pub mod reduct;
+pub mod split;
 
 // What a test answers.
 pub struct Verdict {
