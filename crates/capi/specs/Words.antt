@@ -1,0 +1,60 @@
+-- What the calls give to C: 65,536 times the refusal number, plus the value.
+use mathlib.Core.Path.{_≡_}
+use mathlib.Core.Bool.{Bool, cond}
+use mathlib.Core.List.{List}
+use Prim.Native.Nat.{ℕ, zero, suc, _+_, _*_}
+use lib.IntN.{ℤ, pos, negsuc}
+use lib.ListN.{length}
+use Rattle.lpod.specs.Answer.{answerSets}
+use Rattle.lpod.specs.Preferred.{compare}
+use Rattle.lpod.specs.Best.{bestSets, pick}
+use Rattle.page.specs.Fields.{rowCount}
+use Rattle.page.specs.Program.{program}
+use Rattle.routes.specs.Tests.{reductTest, hereThereTest}
+use Rattle.routes.specs.Split.{splitTest}
+use Rattle.engine.specs.Calls.{picked, pickNo, listed, listNo, stored}
+use Rattle.engine.specs.Degrees.{graded, degreesNo, degreesAfter}
+use Rattle.engine.specs.Compare.{compared, compareNo}
+
+unfoldable pub word : ℕ → ℕ → ℕ
+word no value = 65536 * no + value
+
+-- yes is 1, no is 0
+unfoldable pub bit : Bool → ℕ
+bit b = cond b 1 0
+
+-- the first preferred is 1, the second 2, neither 0
+unfoldable pub sideValue : ℤ → ℕ
+sideValue (pos zero) = 0
+sideValue (pos (suc n)) = 1
+sideValue (negsuc n) = 2
+
+unfoldable pub pickWord : List ℕ → ℕ → ℕ
+pickWord page flags = let r = picked (pickNo page flags) (pick (program page flags)) in word (r .no) (r .set)
+
+unfoldable pub reductWord : List ℕ → ℕ → ℕ → ℕ
+reductWord page flags set = let r = reductTest page flags set in word (r .no) (bit (r .yes))
+
+unfoldable pub hereThereWord : List ℕ → ℕ → ℕ → ℕ
+hereThereWord page flags set = let r = hereThereTest page flags set in word (r .no) (bit (r .yes))
+
+unfoldable pub splitWord : List ℕ → ℕ → ℕ → ℕ
+splitWord page flags set = let r = splitTest page flags set in word (r .no) (r .count)
+
+unfoldable pub compareWord : List ℕ → ℕ → ℕ → ℕ → ℕ
+compareWord page flags first second =
+    let r = compared (compareNo page flags first second) (compare (program page flags) first second) in word (r .no) (sideValue (r .side))
+
+-- a list of sets: the word, and the lent slice afterwards
+unfoldable pub setsWord : List ℕ → List ℕ → ℕ → List ℕ → ℕ
+setsWord sets page flags out = let r = listed (listNo page flags sets out) sets in word (r .no) (r .count)
+
+abbrev pub SetsGiven : List ℕ → List ℕ → ℕ → List ℕ → ℕ → List ℕ → Type 0
+SetsGiven sets page flags out r after = (r ≡ setsWord sets page flags out) × (after ≡ stored (listNo page flags sets out) sets out)
+
+-- degrees: the word, and the lent slice afterwards
+unfoldable pub degreesWord : List ℕ → ℕ → ℕ → List ℕ → ℕ
+degreesWord page flags set out = let r = graded (degreesNo page flags set (length out)) (rowCount page) in word (r .no) (r .count)
+
+abbrev pub DegreesGiven : List ℕ → ℕ → ℕ → List ℕ → ℕ → List ℕ → Type 0
+DegreesGiven page flags set out r after = (r ≡ degreesWord page flags set out) × (after ≡ degreesAfter page flags set out)
