@@ -45,6 +45,9 @@ module _ (page : List ℕ) (flags set : ℕ) (e : splitNo page flags set ≡ 0) 
   unfolding splitNo splitRefusals testNo
   both-zero = given-append (testRefusals page flags set) (refuse 12 (tooMany page flags) ∷ []) (test-numbered page flags set) e
 
+  pub split-test-zero : testNo page flags set ≡ 0
+  split-test-zero = both-zero .0
+
   page-accepted : pageNo page ≡ 0
   page-accepted = flag-page page flags (test-flags page flags set (both-zero .0))
 

@@ -124,7 +124,8 @@ module _ (page : List ℕ) (flags s : ℕ) where
     -- the counts so far and the next one are no more than there are split programs
     pub count-room : (k : ℕ) → k < max 1 (headCount page m) → sumBelow k (withOption m choice) + withOption m choice k ≤ splitNumber (someRows page 0 n)
     count-room k lk =
-        let a : sumBelow (k + 1) (withOption m choice) ≤ sumBelow (max 1 (headCount page m)) (withOption m choice) = below-part (k + 1) (max 1 (headCount page m)) _ (omega arith) in
+        let a : sumBelow (k + 1) (withOption m choice) ≤ sumBelow (max 1 (headCount page m)) (withOption m choice)
+        = below-part (k + 1) (max 1 (headCount page m)) _ (omega arith) in
         let b = below-more k (withOption m choice) in
         let c = count-step in
         let d = counted-most n choice in
@@ -142,4 +143,6 @@ module _ (page : List ℕ) (flags s : ℕ) where
   -- a set that holds a pair is an answer set of none
   pub count-paired : noPair (pairsOf page) s ≡ false → 0 ≡ splitCount (program page flags) s
   unfolding splitCount program
-  count-paired e = sym (count-same _ (λ C. false) (rules (program page flags)) (λ C. ap (λ b. b && splitAnswer C s) e) ∙ ap length (keep-none (choices (rules (program page flags)))))
+  count-paired e =
+      sym (count-same _ (λ C. false) (rules (program page flags)) (λ C. ap (λ b. b && splitAnswer C s) e)
+      ∙ ap length (keep-none (choices (rules (program page flags)))))

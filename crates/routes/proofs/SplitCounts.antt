@@ -1,5 +1,5 @@
 -- What the split test says, as theorems about its definition. Accepted, its count is the count in the definition of split programs, and it says yes
--- exactly where the set is an answer set. Refused, it counts 0 and says no. Assumes nothing.
+-- exactly where the set is an answer set: what the reduct test says, and the here-and-there test. Refused, it counts 0 and says no. Assumes nothing.
 use mathlib.Core.Path.{_≡_, sym, ap, _∙_}
 use mathlib.Core.List.{List}
 use Prim.Native.Nat.{ℕ}
@@ -12,7 +12,11 @@ use Rattle.lpod.specs.Split.{splitCount}
 use Rattle.lpod.proofs.ReductIsSplit.{reduct-is-split}
 use Rattle.page.specs.Program.{program}
 use Rattle.routes.specs.Split.{splitNo, counted, uncounted, splitTest}
+use Rattle.routes.specs.Tests.{verdict, reductTest, hereThereTest}
+use Rattle.routes.specs.declared.Verdict.{Verdict}
 use Rattle.routes.specs.declared.split.Split.{Split}
+use Rattle.routes.proofs.Verdicts.{reduct-says-here-there}
+use Rattle.routes.proofs.SplitAccepted.{split-test-zero}
 
 module _ (page : List ℕ) (flags set : ℕ) where
   accepted : splitNo page flags set ≡ 0 → splitTest page flags set ≡ counted (splitCount (program page flags) set)
@@ -35,6 +39,13 @@ module _ (page : List ℕ) (flags set : ℕ) where
         ∙ same-yes (ltb 0 (splitCount (program page flags) set)) (answer (program page flags) set)
         (λ t. reduct-is-split (program page flags) set .1 (ltb-true 0 (splitCount (program page flags) set) (yes-true _ t)))
         (λ t. lt→ltb 0 (splitCount (program page flags) set) (reduct-is-split (program page flags) set .0 t))
+
+    -- the three tests say the same
+    pub three-agree : (splitTest page flags set .yes ≡ reductTest page flags set .yes) × (splitTest page flags set .yes ≡ hereThereTest page flags set .yes)
+    unfolding reductTest verdict
+    three-agree =
+        let r : splitTest page flags set .yes ≡ reductTest page flags set .yes = split-says ∙ rw (split-test-zero page flags set e) in
+        (r, r ∙ ap (λ (v : Verdict). v .yes) (reduct-says-here-there page flags set))
 
   -- the number is given whether or not the test counts
   pub split-gives : splitTest page flags set .no ≡ splitNo page flags set

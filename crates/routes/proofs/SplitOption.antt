@@ -1,7 +1,7 @@
 -- One option of a row, against a set: which atoms bar it, what it adds in a round, and that it is the row's option of that number. A head atom
 -- before k is in the set exactly where the first head atom in the set has a place from 1 to k. By induction on the head. Assumes nothing.
 use mathlib.Core.Path.{_≡_, refl, sym, ap, _∙_}
-use mathlib.Core.Bool.{Bool, true, false, _&&_, _||_, not, cond}
+use mathlib.Core.Bool.{Bool, true, false, _&&_, _||_, not, cond, and-false}
 use mathlib.Core.Logic.{_⊎_, inl, inr, ⊎-elim}
 use mathlib.Core.List.{List, [], _∷_, _++_}
 use Prim.Native.Nat.{ℕ, zero, suc, _+_, _≤_, _<_}
@@ -41,11 +41,7 @@ upTo p k = ltb 0 p && leb p k
 
 before-none : (p b : ℕ) → (p ≡ 0) ⊎ (suc b ≤ p) → upTo p b ≡ false
 before-none zero b r = refl
-before-none (suc p) b r = ⊎-elim (λ e. absurd (omega arith)) (λ h. rw (lt-leb (suc p) b h) (and-no (ltb 0 (suc p)))) r
-  where
-    and-no : (x : Bool) → (x && false) ≡ false
-    and-no true = refl
-    and-no false = refl
+before-none (suc p) b r = ⊎-elim (λ e. absurd (omega arith)) (λ h. rw (lt-leb (suc p) b h) (and-false (ltb 0 (suc p)))) r
 
 some-from : (l : List ℕ) (k b s : ℕ) → someIn (take k l) s ≡ upTo (place (suc b) l s) (b + k)
 unfolding someIn some place
@@ -55,7 +51,8 @@ some-from (a ∷ l) zero b s =
     sym (rw e (before-none (place (suc b) (a ∷ l) s) b (place-least (a ∷ l) (suc b) s)))
 some-from (a ∷ l) (suc k) b s = go (has s a) (some-from l k (suc b) s)
   where
-    go : (t : Bool) → someIn (take k l) s ≡ upTo (place (suc (suc b)) l s) (suc b + k) → (t || someIn (take k l) s) ≡ upTo (cond t (suc b) (place (suc (suc b)) l s)) (b + suc k)
+    go : (t : Bool) → someIn (take k l) s ≡ upTo (place (suc (suc b)) l s) (suc b + k)
+        → (t || someIn (take k l) s) ≡ upTo (cond t (suc b) (place (suc (suc b)) l s)) (b + suc k)
     go true e = rw (lt-ltb 0 (suc b) (omega arith), le-leb (suc b) (b + suc k) (omega arith))
     go false e = let z : b + suc k ≡ suc b + k = omega arith in rw z e
 
@@ -101,7 +98,8 @@ module _ (page : List ℕ) (row : Row) (k set s t : ℕ) where
     barred = some-append (has set) (ruleOf page row .neg) (take k (ruleOf page row .head)) ∙ rw (en, ef, some-before (ruleOf page row .head) k set)
 
     -- what it adds, whatever the positive body says
-    fires : fire (glRow set (optionAt (ruleOf page row) k)) s t ≡ cond (neg || upTo first k) t (cond (allIn (ruleOf page row .pos) s) (insert t (getD (ruleOf page row .head) k 0)) t)
+    fires : fire (glRow set (optionAt (ruleOf page row) k)) s t
+        ≡ cond (neg || upTo first k) t (cond (allIn (ruleOf page row .pos) s) (insert t (getD (ruleOf page row .head) k 0)) t)
     fires = rw (headed page row k h, gives-fire, barred)
 
     pub fire-denied : neg ≡ true → t ≡ fire (glRow set (optionAt (ruleOf page row) k)) s t

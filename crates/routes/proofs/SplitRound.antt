@@ -1,33 +1,28 @@
 -- One round of a chosen split program, row by row: the option of the row in hand fires, then those of the rows after it, and the flags' atoms come in
--- at the end. Rounds from the empty set stay inside every closed set, so where one adds nothing the least closed set is reached. Assumes nothing.
+-- at the end. And what makes the set an answer set of that program. By induction on the rows, and by membership. Assumes nothing.
 use mathlib.Core.Path.{_≡_, refl, sym, ap, _∙_, subst}
-use mathlib.Core.Bool.{Bool, true, false, _||_, cond, and-true}
+use mathlib.Core.Bool.{Bool, true, false, _||_, and-true, or-false, or-assoc}
 use mathlib.Core.List.{List, [], _∷_, _++_, map}
-use Prim.Native.Nat.{ℕ, _+_, _-_, _^_, _≤_, _<_}
+use Prim.Native.Nat.{ℕ, _+_, _-_, _^_, _<_}
 use native.Mathlib.Omega.{arith}
 use lib.Dec.{T, eqb, eqb→eq, eqb-refl}
 use lib.ListN.{getD}
-use Rattle.atoms.specs.Atoms.{has, insert, union, Inside}
-use Rattle.atoms.proofs.Truth.{same-yes, false-no}
-use Rattle.atoms.proofs.Bits.{has-or, has-insert, has-zero, has-below, same-atoms, inside-le}
+use Rattle.atoms.specs.Atoms.{has, insert, union}
+use Rattle.atoms.proofs.Truth.{same-yes}
+use Rattle.atoms.proofs.Bits.{has-or, has-insert, has-below, same-atoms}
 use Rattle.lpod.specs.Lists.{every, some, keep, gather, below}
 use Rattle.lpod.specs.Rule.{Rule}
 use Rattle.lpod.specs.Satisfied.{allIn, someIn, noneIn}
 use Rattle.lpod.specs.Reduct.{Definite}
-use Rattle.lpod.specs.Least.{fire, rounds, least, Closed}
+use Rattle.lpod.specs.Least.{fire, least}
 use Rattle.lpod.specs.Split.{Option, gives, glRow, glReduct, barHolds, splitAnswer}
 use Rattle.lpod.proofs.Lists.{every-append, some-at, some-made, keep-in, in-keep, numbers-in, gather-append}
-use Rattle.lpod.proofs.LeastClosed.{fire-keeps, fixed-closed, rounds-inside, is-least}
+use Rattle.lpod.proofs.Firing.{fire-append}
 use Rattle.page.specs.Fields.{rowCount}
 use Rattle.page.specs.Program.{rowsOf}
 use Rattle.routes.specs.Choice.{someRows, optionAt, barRow, taken, flagOptions, programFrom}
 use Rattle.routes.proofs.SplitOption.{bar-any}
 use Rattle.routes.proofs.SplitRows.{rows-whole}
-
-fire-append : (D E : List Definite) (s t : ℕ) → fire (D ++ E) s t ≡ fire E s (fire D s t)
-unfolding fire
-fire-append [] E s t = refl
-fire-append (d ∷ D) E s t = fire-append D E s (cond (allIn (d .body) s) (insert t (d .atom)) t)
 
 fire-joined : (C E : List Option) (set s t : ℕ) → fire (glReduct (C ++ E) set) s t ≡ fire (glReduct E set) s (fire (glReduct C set) s t)
 unfolding glReduct
@@ -50,16 +45,8 @@ module _ (set s t n : ℕ) (choice : List ℕ) where
 -- firing rules without body adds their atoms
 given-atoms : (l : List ℕ) (set s t i : ℕ) → has (fire (glReduct (map (λ a. gives a [] []) l) set) s t) i ≡ (has t i || some (eqb i) l)
 unfolding glReduct gather glRow noneIn someIn some allIn every fire
-given-atoms [] set s t i = or-no (has t i)
-  where
-    or-no : (b : Bool) → b ≡ (b || false)
-    or-no true = refl
-    or-no false = refl
-given-atoms (a ∷ l) set s t i = given-atoms l set s (insert t a) i ∙ rw (has-insert t a i) (or-more (has t i) (eqb i a) (some (eqb i) l))
-  where
-    or-more : (a b c : Bool) → ((a || b) || c) ≡ (a || (b || c))
-    or-more true b c = refl
-    or-more false b c = refl
+given-atoms [] set s t i = sym (or-false (has t i))
+given-atoms (a ∷ l) set s t i = given-atoms l set s (insert t a) i ∙ rw (has-insert t a i) (or-assoc (has t i) (eqb i a) (some (eqb i) l))
 
 -- the atoms of a flag word, listed
 listed : (flags i : ℕ) → flags < 2 ^ 16 → some (eqb i) (keep (has flags) (below 16)) ≡ has flags i
@@ -81,25 +68,6 @@ unfolding programFrom
 round-flags page flags set s t choice h e = sym (
     ap (λ (P : List Rule). fire (glReduct (taken P 0 choice ++ flagOptions flags) set) s s) (rows-whole page)
     ∙ fire-joined (taken (rowsOf page) 0 choice) (flagOptions flags) set s s ∙ flags-fire flags set s _ h ∙ rw e)
-
--- ---- the least closed set
--- what is kept from round to round: s is inside every closed set
-abbrev pub Inner : List Definite → ℕ → Type 0
-Inner D s = (c : ℕ) → Closed D c → Inside s c
-
-pub inner-empty : (D : List Definite) → Inner D 0
-inner-empty D c k i h = absurd (false-no (has-zero i) h)
-
-module _ (D : List Definite) (s t : ℕ) (inner : Inner D s) (e : t ≡ fire D s s) where
-  pub inner-next : Inner D t
-  unfolding rounds
-  inner-next c k = subst (λ (x : ℕ). Inside x c) (sym e) (rounds-inside 1 D s c k (inner c k))
-
-  pub inner-least : t ≤ s → s ≡ least D
-  inner-least l =
-      let up : s ≤ t = subst (λ (x : ℕ). s ≤ x) (sym e) (inside-le s (fire D s s) (fire-keeps D s s)) in
-      let q : s ≡ t = omega arith in
-      sym (is-least D s .1 (record { itself = fixed-closed D s (sym e ∙ sym q); smallest = inner }))
 
 -- ---- the rows without head
 bars-taken : (P : List Rule) (n s : ℕ) (choice : List ℕ) → every (barHolds s) (taken P n choice) ≡ every (barRow s) P

@@ -48,7 +48,8 @@ pub rows-in : (page : List ℕ) (m k n : ℕ) → m ≤ n → n < m + k → List
 rows-in page m zero n l h = absurd (omega arith)
 rows-in page m (suc k) n l h = rw (rows-next page m k) (go (ℕ-discrete n m) (rows-in page (m + 1) k n))
   where
-    go : Dec (n ≡ m) → (m + 1 ≤ n → n < m + 1 + k → List·Memᴰ (rowAt page n) (someRows page (m + 1) k)) → List·Memᴰ (rowAt page n) (rowAt page m ∷ someRows page (m + 1) k)
+    go : Dec (n ≡ m) → (m + 1 ≤ n → n < m + 1 + k → List·Memᴰ (rowAt page n) (someRows page (m + 1) k))
+        → List·Memᴰ (rowAt page n) (rowAt page m ∷ someRows page (m + 1) k)
     go (yes e) rest = List·Memᴰ·head (ap (rowAt page) e)
     go (no e) rest = List·Memᴰ·tail (rest (omega arith) (omega arith))
 
@@ -71,7 +72,8 @@ pub store-option : (page : List ℕ) (flags n k : ℕ) (choice : List ℕ) → n
 unfolding programFrom taken
 store-option page flags n k choice h l =
     let e : rowCount page - n ≡ suc (rowCount page - (n + 1)) = omega arith in
-    rw (e, rows-next page n (rowCount page - (n + 1)), getD-set-same choice n k 0, taken-below (someRows page (n + 1) (rowCount page - (n + 1))) (n + 1) n k choice (omega arith))
+    let rest = taken-below (someRows page (n + 1) (rowCount page - (n + 1))) (n + 1) n k choice (omega arith) in
+    rw (e, rows-next page n (rowCount page - (n + 1)), getD-set-same choice n k 0, rest)
 
 -- behind the last row only the flags' options are left
 pub program-end : (page : List ℕ) (flags : ℕ) (choice : List ℕ) → programFrom page flags (rowCount page) choice ≡ flagOptions flags

@@ -1,4 +1,5 @@
 -- What the split test answers. 001 section 2.2: a set is an answer set where it is one of some split program.
+use mathlib.Core.Path.{_≡_}
 use mathlib.Core.Bool.{Bool, false, cond}
 use mathlib.Core.List.{List, [], _∷_, _++_}
 use Prim.Native.Nat.{ℕ}
@@ -30,3 +31,7 @@ uncounted n = record { no = n; count = 0; yes = false }
 
 unfoldable pub splitTest : List ℕ → ℕ → ℕ → Split
 splitTest page flags set = cond (eqb (splitNo page flags set) 0) (counted (splitCount (program page flags) set)) (uncounted (splitNo page flags set))
+
+-- the statement of the call
+abbrev pub SplitSays : List ℕ → ℕ → ℕ → Split → Type 0
+SplitSays page flags set r = r ≡ splitTest page flags set

@@ -102,7 +102,7 @@ fn least_closed(page: &[u8], flags: u16, set: u16, choice: &[u8; 32]) -> u16
 {
     let mut s: u16 = 0;
     let mut t = round(page, flags, set, choice, s);
-    while s < t {
+    while s != t {
         s = t;
         t = round(page, flags, set, choice, s);
     }
@@ -204,7 +204,7 @@ fn split_no(page: &[u8], flags: u16, set: u16) -> u16
 // The split test of a set: the refusal number; accepted, how many split programs have the set as answer set, and yes where one has; refused, 0 and
 // no. At most 4,096 split programs are tested.
 pub fn split_test(page: &[u8], flags: u16, set: u16) -> Split
-    ensures { λ r. ⌜ r ≡ means.splitTest (now (page .entry)) flags set ⌝ }
+    ensures { λ r. ⌜ means.SplitSays (now (page .entry)) flags set r ⌝ }
 {
     let no = split_no(page, flags, set);
     if no != 0 {

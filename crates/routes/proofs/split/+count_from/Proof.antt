@@ -19,6 +19,7 @@ use Rattle.routes.proofs.split.option_count.Reads as option-count-reads
 use Rattle.routes.proofs.split.+count_from.{statement}
 use Rattle.routes.proofs.split.+count_from.Tie.{close}
 
+-- the row number falls
 abbrev μ : Measures 1 kinds.ps ℕ
 μ κs a = a .1 .1 .1 .0
 
@@ -53,12 +54,14 @@ chosen-answer-requires t c κs = c .before .before .before .pre .1 .0
 returns : (t : ℕ) → lts.Need-returns (claims t) (at t) count-from.Post Inv-loop μ-loop
 returns t c =
     let a = c .before .before .before .before .before .args in
-    ap (λ b. cond b 1 0) (sym (c .if2 .taken)) ∙ count-zero (now (a .page)) (a .flags) (a .set) (a .n) (a .t5) _ (c .before .before .before .if1 .taken) (c .before .chosen-answer .ensures)
+    ap (λ b. cond b 1 0) (sym (c .if2 .taken))
+    ∙ count-zero (now (a .page)) (a .flags) (a .set) (a .n) (a .t5) _ (c .before .before .before .if1 .taken) (c .before .chosen-answer .ensures)
 
 returns-2 : (t : ℕ) → lts.Need-returns-2 (claims t) (at t) count-from.Post Inv-loop μ-loop
 returns-2 t c =
     let a = c .before .before .before .before .before .args in
-    ap (λ b. cond b 1 0) (sym (c .if2 .left)) ∙ count-zero (now (a .page)) (a .flags) (a .set) (a .n) (a .t5) _ (c .before .before .before .if1 .taken) (c .before .chosen-answer .ensures)
+    ap (λ b. cond b 1 0) (sym (c .if2 .left))
+    ∙ count-zero (now (a .page)) (a .flags) (a .set) (a .n) (a .t5) _ (c .before .before .before .if1 .taken) (c .before .chosen-answer .ensures)
 
 sub-row : (t : ℕ) → lts.Need-sub-row (claims t) (at t) count-from.Post Inv-loop μ-loop
 sub-row t c = omega arith

@@ -44,9 +44,11 @@ returns : tie.Need-returns Inv-loop μ-loop
 returns c =
     let h = c .before .before .before .before .loop in
     let page = c .before .before .before .before .before .before .before in
+    let bytes = page .shared-slice-known .given in
     let row = c .before .before .row-from in
-    sym (h .inv .2 ∙ every-stop (barRow (page .before .args .set)) _ _ _ (rest-step _ (page .shared-slice-known .given) (h .n) _ (row .result) (omega arith) (h .inv .1) (row .ensures)
-    _ _ (omega arith) refl) (sym (c .before .bar-holds .ensures) ∙ not-true _ (c .if1 .taken)))
+    let bar = sym (c .before .bar-holds .ensures) ∙ not-true _ (c .if1 .taken) in
+    sym (h .inv .2 ∙ every-stop (barRow (page .before .args .set)) _ _ _
+    (rest-step _ bytes (h .n) _ (row .result) (omega arith) (h .inv .1) (row .ensures) _ _ (omega arith) refl) bar)
 
 place-after-requires : tie.Need-place-after-requires Inv-loop μ-loop
 place-after-requires c κs = tt

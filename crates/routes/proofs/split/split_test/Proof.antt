@@ -20,8 +20,9 @@ returns c =
 split-count-requires : tie.Need-split-count-requires
 split-count-requires c κs =
     let a = c .before .before .before .args in
-    let e : c .before .split-no .result ≡ 0 = omega arith in
-    (splits (now (a .page)) (a .flags) (a .set) (sym (c .before .split-no .ensures) ∙ e), splits-few (now (a .page)) (a .flags) (a .set) (sym (c .before .split-no .ensures) ∙ e))
+    let z : c .before .split-no .result ≡ 0 = omega arith in
+    let e = sym (c .before .split-no .ensures) ∙ z in
+    (splits (now (a .page)) (a .flags) (a .set) e, splits-few (now (a .page)) (a .flags) (a .set) e)
 
 returns-2 : tie.Need-returns-2
 unfolding counted

@@ -1,0 +1,113 @@
+-- On an accepted page the searches find the answer sets, all of them, and the best ones: an answer set lies between the flags and the flags
+-- with all head atoms, which are atoms of the page. Assumes nothing.
+use mathlib.Core.Path.{_≡_, refl, sym, ap, _∙_, subst}
+use mathlib.Core.Bool.{Bool, _&&_}
+use mathlib.Core.Logic.{⊎-elim}
+use mathlib.Core.List.{List, [], _∷_, List·Memᴰ, List·Memᴰ·head, List·Memᴰ·tail, List·Memᴰ·append-cases}
+use Prim.Native.Nat.{ℕ, _^_, _≤_, _<_}
+use native.Mathlib.Nat.{lt-of-le-of-lt}
+use native.Mathlib.Omega.{arith}
+use lib.Pow.{pow-pos, pow-mono}
+use lib.Bits.{or-lt}
+use lib.Dec.{T, ltb, lt→ltb}
+use Rattle.atoms.specs.Atoms.{inside, union}
+use Rattle.atoms.proofs.Truth.{and-r, both, yes-true, same-yes}
+use Rattle.atoms.proofs.Bits.{inside-test, inside-le}
+use Rattle.atoms.proofs.Count.{insert-lt}
+use Rattle.lpod.specs.Lists.{keep, below}
+use Rattle.lpod.specs.Rule.{Rule, setOf, headAtoms}
+use Rattle.lpod.specs.Answer.{answer, answerSets}
+use Rattle.lpod.specs.Preferred.{preferred}
+use Rattle.lpod.specs.Best.{noneOver, bestOf, bestSets}
+use Rattle.lpod.proofs.Between.{flags-inside, inside-heads}
+use Rattle.page.specs.Fields.{atomCount}
+use Rattle.page.specs.Program.{rowsOf, program}
+use Rattle.page.specs.Refusals.{flagNo}
+use Rattle.page.proofs.Accepted.{ranges}
+use Rattle.page.proofs.AcceptedAtoms.{AtomsBelow, rows-below, flag-page, flags-below}
+use Rattle.engine.specs.Seek.{allFrom}
+use Rattle.engine.specs.Search.{atomsOf, topOf, tried, bestAmong, soughtBest}
+use Rattle.engine.specs.Lists.{listing}
+use Rattle.engine.specs.Calls.{setsOf}
+use Rattle.engine.specs.declared.list.Which.{Which}
+use Rattle.engine.specs.declared.list.Which.the-variants.{All, Best}
+use Rattle.engine.proofs.Kept.{keep-same, keep-both, keep-short}
+
+-- ---- a list of atoms as a set
+atoms-set : (l : List ℕ) → AtomsBelow 16 l → atomsOf l ≡ setOf l
+unfolding atomsOf keep setOf
+atoms-set [] h = refl
+atoms-set (a ∷ l) h =
+    rw (yes-true (ltb a 16) (lt→ltb a 16 (h a (List·Memᴰ·head refl)))) (ap (λ (s : ℕ). union s (2 ^ a)) (atoms-set l (λ b m. h b (List·Memᴰ·tail m))))
+
+set-below : (n : ℕ) (l : List ℕ) → AtomsBelow n l → setOf l < 2 ^ n
+unfolding setOf
+set-below n [] h = pow-pos n
+set-below n (a ∷ l) h = insert-lt n (setOf l) a (set-below n l (λ b m. h b (List·Memᴰ·tail m))) (h a (List·Memᴰ·head refl))
+
+heads-below : (n : ℕ) (P : List Rule) → ((r : Rule) → List·Memᴰ r P → AtomsBelow n (r .head)) → AtomsBelow n (headAtoms P)
+unfolding headAtoms
+heads-below n [] h a m = elim m [ ]
+heads-below n (r ∷ P) h a m =
+    ⊎-elim (λ i. h r (List·Memᴰ·head refl) a i) (λ i. heads-below n P (λ q j. h q (List·Memᴰ·tail j)) a i) (List·Memᴰ·append-cases (r .head) m)
+
+-- ---- the best of all that pass, over any relation
+best-of-all : (over : ℕ → ℕ → Bool) (passes : ℕ → Bool) → allFrom (bestAmong over passes) 0 ≡ bestOf over (allFrom passes 0)
+unfolding allFrom bestAmong bestOf
+best-of-all over passes = keep-both passes (noneOver over (keep passes (below 65536))) (below 65536)
+
+-- ---- an accepted page and flag word
+module _ (page : List ℕ) (flags : ℕ) (w : flags < 2 ^ 16) (h : flagNo page flags ≡ 0) where
+  most : atomCount page ≤ 16
+  most = ranges page (flag-page page flags h) .atoms-most
+
+  of-page : AtomsBelow (atomCount page) (headAtoms (rowsOf page))
+  of-page = heads-below (atomCount page) (rowsOf page) (λ r m. rows-below page (flag-page page flags h) r m .head-below)
+
+  top-is : topOf page flags ≡ union flags (setOf (headAtoms (rowsOf page)))
+  unfolding topOf
+  top-is = ap (union flags) (atoms-set (headAtoms (rowsOf page)) (λ a m. omega (arith, of-page a m, most)))
+
+  top-below : topOf page flags < 2 ^ atomCount page
+  top-below =
+      rw top-is (or-lt (atomCount page) flags (setOf (headAtoms (rowsOf page))) (flags-below page flags h w) (set-below (atomCount page) (headAtoms (rowsOf page)) of-page))
+
+  module _ (s : ℕ) (t : T (answer (program page flags) s)) where
+    answer-tried : T (tried (program page flags) (topOf page flags) s)
+    unfolding tried program
+    answer-tried =
+        both (inside flags s) (inside s (topOf page flags) && answer (program page flags) s)
+        (inside-test flags s (flags-inside (program page flags) s t w))
+        (both (inside s (topOf page flags)) (answer (program page flags) s)
+        (inside-test s (topOf page flags) (rw top-is (inside-heads (program page flags) s t))) t)
+
+    pub answer-below : s < 2 ^ atomCount page
+    unfolding program
+    answer-below = lt-of-le-of-lt (inside-le s (topOf page flags) (rw top-is (inside-heads (program page flags) s t))) top-below
+
+  tried-answer : (s : ℕ) → T (tried (program page flags) (topOf page flags) s) → T (answer (program page flags) s)
+  unfolding tried program
+  tried-answer s t =
+      and-r (inside s (topOf page flags)) (answer (program page flags) s) (and-r (inside flags s) (inside s (topOf page flags) && answer (program page flags) s) t)
+
+  all-answers : allFrom (tried (program page flags) (topOf page flags)) 0 ≡ answerSets (program page flags)
+  unfolding allFrom answerSets program
+  all-answers =
+      keep-same (tried (program page flags) (topOf page flags)) (answer (program page flags)) (λ s. same-yes _ _ (tried-answer s) (answer-tried s)) (below 65536)
+      ∙ keep-short (answer (program page flags)) (2 ^ atomCount page) 65536 (pow-mono most) answer-below
+
+  all-best : allFrom (soughtBest page flags (topOf page flags)) 0 ≡ bestSets (program page flags)
+  unfolding bestSets
+  all-best =
+      best-of-all (preferred (program page flags)) (tried (program page flags) (topOf page flags)) ∙ ap (bestOf (preferred (program page flags))) all-answers
+
+  sets-found : (which : Which) → allFrom (listing page flags (topOf page flags) which) 0 ≡ setsOf which (program page flags)
+  unfolding listing setsOf
+  sets-found All = all-answers
+  sets-found Best = all-best
+
+-- in the words of the code: the call's number is 0, and top is what was made
+pub all-sets : (page : List ℕ) (flags k top : ℕ) (which : Which) → flags < 2 ^ 16 → k ≡ flagNo page flags → k ≡ 0 → top ≡ topOf page flags
+    → allFrom (listing page flags top which) 0 ≡ setsOf which (program page flags)
+all-sets page flags k top which w e z et =
+    ap (λ (t : ℕ). allFrom (listing page flags t which) 0) et ∙ sets-found page flags w (sym e ∙ z) which

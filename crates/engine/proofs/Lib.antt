@@ -1,0 +1,17 @@
+pub mod LeastKept
+pub mod FirstDifference
+pub mod Refused
+pub mod Stored
+pub mod Grading
+pub mod Comparing
+pub mod Seek
+pub mod Heads
+pub mod Wanted
+pub mod Champion
+pub mod LastRefusal
+pub mod SetsStored
+pub mod Kept
+pub mod AnswerSets
+pub mod Picks
+pub mod Given
+pub mod Demands

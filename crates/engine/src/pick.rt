@@ -1,0 +1,28 @@
+// The pick: the lowest-numbered best set.
+ghost use Rattle.engine.specs.Calls as means;
+use crate::search;
+use page::accept;
+
+// A refusal number, and the set that is picked. The empty set is a good pick: only the number tells it from a refusal.
+pub struct Picked {
+    pub no: u16,
+    pub set: u16,
+}
+
+// Refusals 1 to 9, then 10 where there is no answer set; else the lowest-numbered best set.
+pub fn pick(page: &[u8], flags: u16) -> Picked
+    ensures { λ r. ⌜ means.PickSays (now (page .entry)) flags r ⌝ }
+{
+    let no = accept::flag_no(page, flags);
+    if no != 0 {
+        return Picked { no, set: 0 };
+    }
+    let m = search::next_best(page, flags, search::top_of(page, flags), 0);
+    if m < 65536 {
+        return Picked {
+            no: 0,
+            set: m as u16,
+        };
+    }
+    Picked { no: 10, set: 0 }
+}
