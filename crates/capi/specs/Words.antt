@@ -17,7 +17,7 @@ use Rattle.engine.specs.Degrees.{graded, degreesNo, degreesAfter}
 use Rattle.engine.specs.Compare.{compared, compareNo}
 
 unfoldable pub word : ℕ → ℕ → ℕ
-word no value = 65536 * no + value
+word n value = 65536 * n + value
 
 -- yes is 1, no is 0
 unfoldable pub bit : Bool → ℕ

@@ -14,6 +14,16 @@ fn word(no: u16, value: u16) -> u32
     65536 * (no as u32) + value as u32
 }
 
+// Yes is 1, no is 0.
+fn bit(b: bool) -> u16
+    ensures { λ r. ⌜ r ≡ means.bit b ⌝ }
+{
+    if b {
+        return 1;
+    }
+    0
+}
+
 // The pick: the lowest-numbered best set.
 #[no_mangle]
 pub extern "C" fn pipeotter_pick(page: &[u8], flags: u16) -> u32
@@ -29,7 +39,7 @@ pub extern "C" fn pipeotter_reduct_test(page: &[u8], flags: u16, set: u16) -> u3
     ensures { λ r. ⌜ r ≡ means.reductWord (now (page .entry)) flags set ⌝ }
 {
     let r = routes::reduct::reduct_test(page, flags, set);
-    word(r.no, r.yes as u16)
+    word(r.no, bit(r.yes))
 }
 
 // The same by here-and-there.
@@ -38,7 +48,7 @@ pub extern "C" fn pipeotter_here_there_test(page: &[u8], flags: u16, set: u16) -
     ensures { λ r. ⌜ r ≡ means.hereThereWord (now (page .entry)) flags set ⌝ }
 {
     let r = routes::here_there::here_there_test(page, flags, set);
-    word(r.no, r.yes as u16)
+    word(r.no, bit(r.yes))
 }
 
 // In how many split programs the set is an answer set.
