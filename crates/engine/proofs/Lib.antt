@@ -15,3 +15,4 @@ pub mod AnswerSets
 pub mod Picks
 pub mod Given
 pub mod Demands
+pub mod Determined

@@ -1,0 +1,454 @@
+/* A plain C solver of the engine's own algorithm, with no proof: the yardstick for its speed, and the stand-in for it
+   when the tests themselves are tested.
+
+   One set at a time. Only numbers between the flag word and the flag word with all head atoms are tested, since no
+   other can be an answer set. Pick and best climb to a champion and skip what it beats. The page is checked once for
+   each call, and bodies are read from its bytes. Lists run once to count and once to store, because a refused call
+   must store nothing. */
+#include "plain.h"
+
+enum { NONE = 65536 }; /* no set: one more than the greatest */
+
+/* A page that was accepted, and a flag word that fits it. */
+typedef struct {
+    const uint8_t *page;
+    const uint8_t *literals, *pairs;
+    unsigned atoms, rows, pair_count;
+    uint16_t flags;
+    uint16_t reach; /* flags and head atoms: nothing else can be in an answer set */
+} Program;
+
+/* One row, as the page's bytes have it. */
+typedef struct {
+    const uint8_t *head, *positive, *negative;
+    unsigned heads, positives, negatives;
+} Row;
+
+static uint32_t refused(unsigned number) { return (uint32_t)number << 16; }
+static int holds(uint16_t set, uint8_t atom) { return set >> atom & 1; }
+static unsigned field(const uint8_t *page, size_t at) { return page[at] + 256u * page[at + 1]; }
+
+/* ---- the page ---- */
+
+static int header_fault(const uint8_t *page, size_t length) {
+    if (length < 18) return 1;
+    unsigned atoms = field(page, 2), rows = field(page, 4), literals = field(page, 6), pairs = field(page, 8);
+    if (field(page, 0) != 1) return 2;
+    if (atoms < 1 || atoms > 16 || rows > 32 || literals > 704 || pairs > 8) return 3;
+    unsigned literals_at = 18 + 4 * rows, pairs_at = literals_at + literals, end = pairs_at + 2 * pairs;
+    if (field(page, 10) != 18 || field(page, 12) != literals_at || field(page, 14) != pairs_at) return 4;
+    if (field(page, 16) != end || length != end) return 4;
+    return 0;
+}
+
+static int rows_fault(const uint8_t *page) {
+    unsigned rows = page[4], sum = 0;
+    for (unsigned r = 0; r < rows; r++) {
+        const uint8_t *row = page + 18 + 4 * r;
+        if (row[0] > 6 || row[1] > 8 || row[2] > 8 || row[3] != 0) return 5;
+        sum += row[0] + row[1] + row[2];
+    }
+    return sum == field(page, 6) ? 0 : 5;
+}
+
+static int atoms_fault(const uint8_t *page, size_t length) {
+    for (size_t i = 18 + 4 * (size_t)page[4]; i < length; i++)
+        if (page[i] >= page[2]) return 6; /* literals and pairs are one stretch to the end */
+    return 0;
+}
+
+static int rises(const uint8_t *list, unsigned count) {
+    for (unsigned i = 1; i < count; i++)
+        if (list[i] <= list[i - 1]) return 0;
+    return 1;
+}
+
+static int bodies_fault(const uint8_t *page) {
+    const uint8_t *at = page + 18 + 4 * page[4];
+    for (unsigned r = 0; r < page[4]; r++) {
+        const uint8_t *row = page + 18 + 4 * r;
+        at += row[0];
+        if (!rises(at, row[1])) return 7;
+        at += row[1];
+        if (!rises(at, row[2])) return 7;
+        at += row[2];
+    }
+    return 0;
+}
+
+static int pairs_fault(const uint8_t *page) {
+    const uint8_t *pair = page + field(page, 14);
+    uint16_t met = 0;
+    for (unsigned q = 0; q < page[8]; q++, pair += 2) {
+        if (pair[0] >= pair[1]) return 8;
+        if (q > 0 && pair[0] <= pair[-2]) return 8;
+        if (holds(met, pair[0]) || holds(met, pair[1])) return 8;
+        met = (uint16_t)(met | 1u << pair[0] | 1u << pair[1]);
+    }
+    return 0;
+}
+
+static int page_fault(const uint8_t *page, size_t length) {
+    int fault = header_fault(page, length);
+    if (!fault) fault = rows_fault(page);
+    if (!fault) fault = atoms_fault(page, length);
+    if (!fault) fault = bodies_fault(page);
+    if (!fault) fault = pairs_fault(page);
+    return fault;
+}
+
+static int stray(const uint8_t *page, uint16_t word) { return word >> page[2] != 0; }
+
+/* Accepts the page and the flag word, or answers the first refusal of 1 to 9. */
+static int open(Program *p, const uint8_t *page, size_t length, uint16_t flags) {
+    int fault = page_fault(page, length);
+    if (fault) return fault;
+    if (stray(page, flags)) return 9;
+    p->page = page;
+    p->atoms = page[2];
+    p->rows = page[4];
+    p->literals = page + 18 + 4 * p->rows;
+    p->pairs = page + field(page, 14);
+    p->pair_count = page[8];
+    p->flags = flags;
+    p->reach = flags;
+    const uint8_t *at = p->literals;
+    for (unsigned r = 0; r < p->rows; r++) {
+        const uint8_t *row = page + 18 + 4 * r;
+        for (unsigned i = 0; i < row[0]; i++) p->reach = (uint16_t)(p->reach | 1u << at[i]);
+        at += row[0] + row[1] + row[2];
+    }
+    return 0;
+}
+
+/* Row r, whose literals start at `at`; answers where the next row's start. */
+static const uint8_t *read_row(const Program *p, unsigned r, const uint8_t *at, Row *row) {
+    const uint8_t *counts = p->page + 18 + 4 * r;
+    row->heads = counts[0];
+    row->positives = counts[1];
+    row->negatives = counts[2];
+    row->head = at;
+    row->positive = at + row->heads;
+    row->negative = row->positive + row->positives;
+    return row->negative + row->negatives;
+}
+
+/* ---- one set ---- */
+
+static int all_in(const uint8_t *list, unsigned count, uint16_t set) {
+    for (unsigned i = 0; i < count; i++)
+        if (!holds(set, list[i])) return 0;
+    return 1;
+}
+
+static int none_in(const uint8_t *list, unsigned count, uint16_t set) {
+    for (unsigned i = 0; i < count; i++)
+        if (holds(set, list[i])) return 0;
+    return 1;
+}
+
+/* The place from 1 of the first head atom in the set, 0 if there is none. */
+static unsigned first_in(const Row *row, uint16_t set) {
+    for (unsigned i = 0; i < row->heads; i++)
+        if (holds(set, row->head[i])) return i + 1;
+    return 0;
+}
+
+static int body_holds(const Row *row, uint16_t set) {
+    return all_in(row->positive, row->positives, set) && none_in(row->negative, row->negatives, set);
+}
+
+static int no_pair(const Program *p, uint16_t set) {
+    for (unsigned q = 0; q < p->pair_count; q++)
+        if (holds(set, p->pairs[2 * q]) && holds(set, p->pairs[2 * q + 1])) return 0;
+    return 1;
+}
+
+static int satisfies(const Program *p, uint16_t set) {
+    Row row;
+    const uint8_t *at = p->literals;
+    for (unsigned r = 0; r < p->rows; r++) {
+        at = read_row(p, r, at, &row);
+        if (body_holds(&row, set) && first_in(&row, set) == 0) return 0;
+    }
+    return 1;
+}
+
+/* One round: what the reduct of `set` gives from `now`, with `now`. */
+static uint16_t reduct_round(const Program *p, uint16_t set, uint16_t now) {
+    Row row;
+    const uint8_t *at = p->literals;
+    uint16_t next = now;
+    for (unsigned r = 0; r < p->rows; r++) {
+        at = read_row(p, r, at, &row);
+        if (!all_in(row.positive, row.positives, now) || !none_in(row.negative, row.negatives, set)) continue;
+        unsigned place = first_in(&row, set);
+        if (place) next = (uint16_t)(next | 1u << row.head[place - 1]);
+    }
+    return next;
+}
+
+static int is_answer(const Program *p, uint16_t set) {
+    if (!no_pair(p, set)) return 0;
+    if (p->flags & ~set) return 0;
+    if (!satisfies(p, set)) return 0;
+    uint16_t now = p->flags;
+    while (now != set) {
+        uint16_t next = reduct_round(p, set, now);
+        if (next == now) return 0;
+        now = next;
+    }
+    return 1;
+}
+
+/* ---- here-and-there, every part of the set in turn ---- */
+
+static int here_there_model(const Program *p, uint16_t here, uint16_t there) {
+    Row row;
+    const uint8_t *at = p->literals;
+    if (p->flags & ~here) return 0;
+    for (unsigned r = 0; r < p->rows; r++) {
+        at = read_row(p, r, at, &row);
+        unsigned place = first_in(&row, there);
+        if (body_holds(&row, there) && place == 0) return 0;
+        if (!all_in(row.positive, row.positives, here) || !none_in(row.negative, row.negatives, there)) continue;
+        if (place == 0 || !holds(here, row.head[place - 1])) return 0;
+    }
+    return 1;
+}
+
+static int is_equilibrium(const Program *p, uint16_t set) {
+    if (!no_pair(p, set) || !here_there_model(p, set, set)) return 0;
+    for (uint16_t here = set; here != 0;) {
+        here = (uint16_t)((here - 1) & set);
+        if (here_there_model(p, here, set)) return 0;
+    }
+    return 1;
+}
+
+/* ---- split programs, from the last row down ---- */
+
+static unsigned split_programs(const Program *p) {
+    unsigned product = 1;
+    for (unsigned r = 0; r < p->rows && product <= 4096; r++) {
+        unsigned heads = p->page[18 + 4 * r];
+        if (heads > 1) product *= heads;
+    }
+    return product;
+}
+
+/* The set is an answer set of the split program with these options (option from 0 on, headless rows have none). */
+static int split_answer(const Program *p, uint16_t set, const uint8_t *option) {
+    uint16_t now = p->flags, next;
+    Row row;
+    if (p->flags & ~set) return 0;
+    for (;;) {
+        const uint8_t *at = p->literals;
+        next = now;
+        for (unsigned r = 0; r < p->rows; r++) {
+            at = read_row(p, r, at, &row);
+            if (row.heads == 0) continue;
+            if (!none_in(row.negative, row.negatives, set) || !none_in(row.head, option[r], set)) continue;
+            if (all_in(row.positive, row.positives, now)) next = (uint16_t)(next | 1u << row.head[option[r]]);
+        }
+        if (next == now) break;
+        now = next;
+    }
+    if (now != set) return 0;
+    const uint8_t *at = p->literals;
+    for (unsigned r = 0; r < p->rows; r++) {
+        at = read_row(p, r, at, &row);
+        if (row.heads == 0 && body_holds(&row, set)) return 0;
+    }
+    return 1;
+}
+
+/* How many choices for the rows below `row` have the set, those above being chosen. */
+static unsigned count_splits(const Program *p, uint16_t set, unsigned row, uint8_t *option) {
+    if (row == 0) return (unsigned)split_answer(p, set, option);
+    unsigned heads = p->page[18 + 4 * (row - 1)], count = 0;
+    if (heads == 0) heads = 1;
+    for (unsigned k = 0; k < heads; k++) {
+        option[row - 1] = (uint8_t)k;
+        count += count_splits(p, set, row - 1, option);
+    }
+    return count;
+}
+
+/* ---- degrees and preference ---- */
+
+static void degrees_of(const Program *p, uint16_t set, uint8_t *degrees) {
+    Row row;
+    const uint8_t *at = p->literals;
+    for (unsigned r = 0; r < p->rows; r++) {
+        at = read_row(p, r, at, &row);
+        degrees[r] = body_holds(&row, set) ? (uint8_t)first_in(&row, set) : 1;
+    }
+}
+
+/* M, with degrees m, is preferred to N. The first degree at which the collections differ is the least degree of a row
+   in which they differ; there no row may be N's alone. */
+static int preferred(const Program *p, const uint8_t *m, const uint8_t *n) {
+    unsigned first = 7;
+    int alone = 0;
+    for (unsigned r = 0; r < p->rows; r++) {
+        if (m[r] == n[r]) continue;
+        unsigned least = m[r] < n[r] ? m[r] : n[r];
+        if (least < first) first = least, alone = 0;
+        if (least == first && n[r] == least) alone = 1;
+    }
+    return first < 7 && !alone;
+}
+
+/* ---- from set to set ---- */
+
+static int in_reach(const Program *p, uint32_t set) {
+    return (set & p->flags) == p->flags && (set & ~(uint32_t)p->reach) == 0;
+}
+
+/* The least answer set from `from` on. */
+static uint32_t next_set(const Program *p, uint32_t from) {
+    for (uint32_t s = from; s < 1u << p->atoms; s++)
+        if (in_reach(p, s) && is_answer(p, (uint16_t)s)) return s;
+    return NONE;
+}
+
+/* The least answer set from `from` on that is preferred to m. Degrees cost less than the test, so they come first. */
+static uint32_t next_better(const Program *p, uint32_t m, uint32_t from) {
+    uint8_t old[32], degrees[32];
+    degrees_of(p, (uint16_t)m, old);
+    for (uint32_t s = from; s < 1u << p->atoms; s++) {
+        if (!in_reach(p, s)) continue;
+        degrees_of(p, (uint16_t)s, degrees);
+        if (preferred(p, degrees, old) && is_answer(p, (uint16_t)s)) return s;
+    }
+    return NONE;
+}
+
+/* The least answer set from `from` on to which the champion is not preferred. */
+static uint32_t next_unbeaten(const Program *p, uint32_t from, uint32_t champion) {
+    uint8_t top[32], degrees[32];
+    if (champion == NONE) return next_set(p, from);
+    degrees_of(p, (uint16_t)champion, top);
+    for (uint32_t s = from; s < 1u << p->atoms; s++) {
+        if (!in_reach(p, s)) continue;
+        degrees_of(p, (uint16_t)s, degrees);
+        if (!preferred(p, top, degrees) && is_answer(p, (uint16_t)s)) return s;
+    }
+    return NONE;
+}
+
+/* The least best set from m on, where m is NONE or an answer set. The champion is kept for the next call. */
+static uint32_t next_best(const Program *p, uint32_t m, uint32_t *champion) {
+    while (m != NONE) {
+        uint32_t n = next_better(p, m, 0);
+        if (n == NONE) return m;
+        while (n != NONE) {
+            *champion = n;
+            n = next_better(p, *champion, *champion + 1);
+        }
+        m = next_unbeaten(p, m + 1, *champion);
+    }
+    return NONE;
+}
+
+/* Goes through the list, or the best list; stores the sets where `sets` is given; answers how many there are. */
+static size_t walk(const Program *p, int only_best, uint16_t *sets) {
+    size_t count = 0;
+    uint32_t champion = NONE, s = next_set(p, 0);
+    if (only_best) s = next_best(p, s, &champion);
+    while (s != NONE) {
+        if (sets) sets[count] = (uint16_t)s;
+        count++;
+        s = next_unbeaten(p, s + 1, champion);
+        if (only_best) s = next_best(p, s, &champion);
+    }
+    return count;
+}
+
+static uint32_t listed(const Program *p, int only_best, uint16_t *sets, size_t room) {
+    size_t count = walk(p, only_best, 0);
+    if (count > room) return refused(11);
+    walk(p, only_best, sets);
+    return (uint32_t)count;
+}
+
+/* ---- the calls ---- */
+
+uint32_t plain_pick(const uint8_t *page, size_t length, uint16_t flags) {
+    Program p;
+    int fault = open(&p, page, length, flags);
+    if (fault) return refused(fault);
+    uint32_t champion = NONE, s = next_best(&p, next_set(&p, 0), &champion);
+    return s == NONE ? refused(10) : s;
+}
+
+uint32_t plain_reduct_test(const uint8_t *page, size_t length, uint16_t flags, uint16_t set) {
+    Program p;
+    int fault = open(&p, page, length, flags);
+    if (fault) return refused(fault);
+    if (stray(page, set)) return refused(9);
+    return (uint32_t)is_answer(&p, set);
+}
+
+uint32_t plain_here_there_test(const uint8_t *page, size_t length, uint16_t flags, uint16_t set) {
+    Program p;
+    int fault = open(&p, page, length, flags);
+    if (fault) return refused(fault);
+    if (stray(page, set)) return refused(9);
+    return (uint32_t)is_equilibrium(&p, set);
+}
+
+uint32_t plain_split_test(const uint8_t *page, size_t length, uint16_t flags, uint16_t set) {
+    Program p;
+    uint8_t option[32];
+    int fault = open(&p, page, length, flags);
+    if (fault) return refused(fault);
+    if (stray(page, set)) return refused(9);
+    if (split_programs(&p) > 4096) return refused(12);
+    return no_pair(&p, set) ? count_splits(&p, set, p.rows, option) : 0;
+}
+
+uint32_t plain_list(const uint8_t *page, size_t length, uint16_t flags, uint16_t *sets, size_t room) {
+    Program p;
+    int fault = open(&p, page, length, flags);
+    return fault ? refused(fault) : listed(&p, 0, sets, room);
+}
+
+uint32_t plain_best(const uint8_t *page, size_t length, uint16_t flags, uint16_t *sets, size_t room) {
+    Program p;
+    int fault = open(&p, page, length, flags);
+    return fault ? refused(fault) : listed(&p, 1, sets, room);
+}
+
+uint32_t plain_degrees(const uint8_t *page, size_t length, uint16_t flags, uint16_t set, uint8_t *degrees, size_t room) {
+    Program p;
+    int fault = open(&p, page, length, flags);
+    if (fault) return refused(fault);
+    if (stray(page, set)) return refused(9);
+    if (room < p.rows) return refused(11);
+    if (!is_answer(&p, set)) return refused(13);
+    degrees_of(&p, set, degrees);
+    return p.rows;
+}
+
+uint32_t plain_compare(const uint8_t *page, size_t length, uint16_t flags, uint16_t first, uint16_t second) {
+    Program p;
+    uint8_t m[32], n[32];
+    int fault = open(&p, page, length, flags);
+    if (fault) return refused(fault);
+    if (stray(page, first) || stray(page, second)) return refused(9);
+    if (!is_answer(&p, first) || !is_answer(&p, second)) return refused(13);
+    degrees_of(&p, first, m);
+    degrees_of(&p, second, n);
+    if (preferred(&p, m, n)) return PIPEOTTER_FIRST;
+    if (preferred(&p, n, m)) return PIPEOTTER_SECOND;
+    return PIPEOTTER_NEITHER;
+}
+
+uint8_t plain_letter(uint16_t number) {
+    if (number >= 1 && number <= 8) return 'P';
+    if (number == 9 || number == 11 || number == 12) return 'C';
+    if (number == 10 || number == 13) return 'F';
+    return ' ';
+}

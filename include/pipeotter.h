@@ -1,0 +1,123 @@
+/* Pipeotter for C: which sets of atoms does a page of ranked rules allow, and which of them is best.
+
+   Link with libcapi.a (x86-64; `rt staticlib capi` writes it). The calls keep nothing between them, take no heap,
+   and touch only what you lend. They may be called from several threads at once if no lent slice is written by two.
+
+   Words used here
+     page    the bytes of one page, form 1: header of 18 bytes, rows, literals, pairs (docs/PAGE.md)
+     flags   raised atoms: bit i raised means that atom i holds, as if the page had a row that says so
+     set     atoms that hold: bit i is atom i. An answer set is a set that the page and the flags allow
+     A, R    the page's number of atoms (1 to 16) and of rows (0 to 32)
+
+   What a call returns
+     65,536 times the refusal number, plus the value. PIPEOTTER_NUMBER and PIPEOTTER_VALUE take them apart.
+     Number 0 is "accepted". Look at the number first: the value 0 is also a good value (the empty set, a count of 0).
+     Where several refusals hold, the lowest number of the call's own list is returned. Each number is returned
+     exactly when its condition holds, so it can be relied on as a diagnosis.
+     A refused call has the value 0 and leaves all lent memory as it was, entry for entry.
+
+   What the proof covers
+     For every page content, length, flag word, set and room: the result and the lent memory afterwards are the ones
+     written here, no byte outside the lent memory is read or written, and the call returns.
+
+   What lies outside the proof. These are yours to keep:
+     - a pointer must be good for the length given with it: `page` for reading `length` bytes, `sets` for `room`
+       entries of 16 bits, `degrees` for `room` bytes. A null pointer is never good, not even with length or room 0:
+       lend the address of any object instead
+     - `sets` must be aligned as a uint16_t
+     - a lent slice to write to must not overlap the page, and nobody else may write to either during the call
+     - this header: nothing but the tests compares it with the proved code */
+#ifndef PIPEOTTER_H
+#define PIPEOTTER_H
+
+/* A compiler without the standard headers (some firmware kits) gets the types from its own macros. */
+#if !defined(__has_include)
+#  include <stddef.h>
+#  include <stdint.h>
+#elif __has_include(<stdint.h>) && __has_include(<stddef.h>)
+#  include <stddef.h>
+#  include <stdint.h>
+#else
+typedef __UINT8_TYPE__ uint8_t;
+typedef __UINT16_TYPE__ uint16_t;
+typedef __UINT32_TYPE__ uint32_t;
+typedef __SIZE_TYPE__ size_t;
+#endif
+
+#ifdef __cplusplus
+extern "C" {
+#endif
+
+/* The refusal numbers. 1 to 8 are faults of the page, 9, 11 and 12 faults of the call, 10 and 13 findings. */
+enum {
+    PIPEOTTER_ACCEPTED = 0,
+    PIPEOTTER_SHORT_PAGE = 1,      /* the page has fewer than 18 bytes */
+    PIPEOTTER_WRONG_FORM = 2,      /* its form is not 1 */
+    PIPEOTTER_COUNT_RANGE = 3,     /* atoms, rows, literals or pairs outside their range */
+    PIPEOTTER_WRONG_LAYOUT = 4,    /* an offset or the whole length is not as the counts say, or not the lent length */
+    PIPEOTTER_BAD_ROW = 5,         /* a row's count too large, its fourth byte not 0, or the counts do not add up */
+    PIPEOTTER_UNKNOWN_ATOM = 6,    /* an atom number of A or more, in the literals or in the pairs */
+    PIPEOTTER_UNSORTED_BODY = 7,   /* a body list that does not rise strictly */
+    PIPEOTTER_BAD_PAIR = 8,        /* a pair out of order, or an atom in two pairs */
+    PIPEOTTER_STRAY_BIT = 9,       /* the flag word or a given set has a bit at A or above */
+    PIPEOTTER_NO_ANSWER_SET = 10,  /* no set is allowed: there is nothing to pick */
+    PIPEOTTER_SHORT_ROOM = 11,     /* the lent slice is too short for the whole result */
+    PIPEOTTER_TOO_MANY_SPLITS = 12,/* the page has more than 4,096 split programs */
+    PIPEOTTER_NOT_ANSWER_SET = 13  /* a given set is not an answer set */
+};
+
+/* The two halves of what a call returns. */
+#define PIPEOTTER_NUMBER(result) ((uint16_t)((uint32_t)(result) >> 16))
+#define PIPEOTTER_VALUE(result) ((uint16_t)((uint32_t)(result) & 0xFFFFu))
+
+/* Limits, for buffers. No page is longer, and no list either: 65,535 sets fit every list, 32 bytes all degrees. */
+#define PIPEOTTER_LONGEST_PAGE 866
+#define PIPEOTTER_MOST_SETS 65535
+#define PIPEOTTER_MOST_ROWS 32
+
+/* What pipeotter_compare answers. */
+#define PIPEOTTER_NEITHER 0
+#define PIPEOTTER_FIRST 1
+#define PIPEOTTER_SECOND 2
+
+/* The set to act on: the lowest-numbered best set.
+   Value: the set. 0 with number 0 is the empty set, a good pick.
+   Refusals, in order: 1 to 8, 9 (flags), 10. */
+uint32_t pipeotter_pick(const uint8_t *page, size_t length, uint16_t flags);
+
+/* Is `set` an answer set? Three routes that always agree. The first is the fast one; the others are for cross-checks
+   (the second tries every part of the set, the third every choice of options).
+   Value of the first two: 1 yes, 0 no. Refusals, in order: 1 to 8, 9 (flags or set). */
+uint32_t pipeotter_reduct_test(const uint8_t *page, size_t length, uint16_t flags, uint16_t set);
+uint32_t pipeotter_here_there_test(const uint8_t *page, size_t length, uint16_t flags, uint16_t set);
+
+/* Value: in how many split programs `set` is an answer set, 0 to 4,096; yes where it is above 0.
+   Refusals, in order: 1 to 8, 9 (flags or set), 12. */
+uint32_t pipeotter_split_test(const uint8_t *page, size_t length, uint16_t flags, uint16_t set);
+
+/* All answer sets, or only the best ones, rising, each once.
+   Value: the count, which may be 0. The sets stand in sets[0] up to sets[count - 1]; every later entry is unchanged.
+   Refusals, in order: 1 to 8, 9 (flags), 11 (room below the count). A refused call stores nothing, not even a part. */
+uint32_t pipeotter_list(const uint8_t *page, size_t length, uint16_t flags, uint16_t *sets, size_t room);
+uint32_t pipeotter_best(const uint8_t *page, size_t length, uint16_t flags, uint16_t *sets, size_t room);
+
+/* How well the answer set `set` does in each row of the page: 1 is the row's first wish (or the row does not apply),
+   2 its second, up to 6.
+   Value: R. The degrees stand in degrees[0] up to degrees[R - 1]; every later byte is unchanged.
+   Refusals, in order: 1 to 8, 9 (flags or set), 11 (room below R), 13. */
+uint32_t pipeotter_degrees(const uint8_t *page, size_t length, uint16_t flags, uint16_t set, uint8_t *degrees,
+                           size_t room);
+
+/* Which of two answer sets is preferred.
+   Value: PIPEOTTER_FIRST, PIPEOTTER_SECOND, or PIPEOTTER_NEITHER (also for equal sets).
+   Refusals, in order: 1 to 8, 9 (flags, first or second), 13 (either set). */
+uint32_t pipeotter_compare(const uint8_t *page, size_t length, uint16_t flags, uint16_t first, uint16_t second);
+
+/* The letter that a panel shows for a refusal number: 'P' page fault (1 to 8), 'C' call fault (9, 11, 12),
+   'F' finding (10, 13), ' ' for 0 and every other number. Never refused. */
+uint8_t pipeotter_letter(uint16_t number);
+
+#ifdef __cplusplus
+}
+#endif
+#endif

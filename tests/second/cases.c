@@ -1,0 +1,58 @@
+/* The pages with known results of document 01, but for the one with 59,535 sets, which pages.c makes. */
+#include "cases.h"
+
+const Case cases[CASES] = {
+    {2, "ab", "", 0, "1 2 /1"},
+    {4, "ab<-c;bc<-d", "", 0, "2 3 4 /3"},
+    {5, "ab<c-d;da<-b;de<-a", "", 0, "1 8 /8"}, /* 01 says of sets only that 6 and 0 are none */
+    {5, "ab;cd<a;e", "ce", 0, "18 25 /18"},
+    {2, "ab;b", "", 0, "2 3 /3"},
+    {1, "a<-a", "", 0, ""},
+    {1, "", "", 0, "0 /0"},
+    {1, "<", "", 0, ""},
+    {2, "ab;<a", "", 0, "2 /2"},
+    {2, "a<b;b<a", "", 0, "0 /0"},
+    {2, "aba", "", 0, "1 2 /1"},
+    {6, "abcd;<ae;<bf", "", 0, "1 2 4 8 /1"},
+    {6, "abcd;<ae;<bf", "", 16, "18 20 24 /18"},
+    {6, "abcd;<ae;<bf", "", 48, "52 56 /52"},
+    {5, "abc;de;<b;<ad;<ce", "", 0, "12 17 /12"},
+    {2, "a;b<a", "", 0, "3 /3"}, /* needs a second round */
+};
+
+static void put_field(Page *page, size_t at, size_t value) {
+    page->byte[at] = (uint8_t)value;
+    page->byte[at + 1] = (uint8_t)(value >> 8);
+}
+
+/* The bytes of a case. Bodies are written in rising order above, the positive atoms first. */
+void case_page(Page *page, const Case *c) {
+    size_t rows = *c->rows ? 1 : 0, literals = 0, pairs = *c->pair ? 1 : 0;
+    for (const char *t = c->rows; *t; t++) {
+        rows += *t == ';';
+        literals += *t >= 'a';
+    }
+    size_t at = 18 + 4 * rows, row = 18;
+    put_field(page, 0, 1);
+    put_field(page, 2, (size_t)c->atoms);
+    put_field(page, 4, rows);
+    put_field(page, 6, literals);
+    put_field(page, 8, pairs);
+    put_field(page, 10, 18);
+    put_field(page, 12, at);
+    put_field(page, 14, at + literals);
+    put_field(page, 16, at + literals + 2 * pairs);
+    for (size_t i = 18; i < at; i++) page->byte[i] = 0;
+    int list = 0; /* 0 head, 1 positive body, 2 negative body */
+    for (const char *t = c->rows; *t; t++) {
+        if (*t == ';') row += 4, list = 0;
+        else if (*t == '<') list = 1;
+        else if (*t == '-') list = 2;
+        else {
+            page->byte[row + (size_t)list]++;
+            page->byte[at++] = (uint8_t)(*t - 'a');
+        }
+    }
+    for (const char *t = c->pair; *t; t++) page->byte[at++] = (uint8_t)(*t - 'a');
+    page->length = at;
+}

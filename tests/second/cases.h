@@ -1,0 +1,17 @@
+/* The pages with known results of document 01: what it says of each, to which the second solver is held first. */
+#ifndef SECOND_CASES_H
+#define SECOND_CASES_H
+#include "pages.h"
+
+typedef struct {
+    int atoms;
+    const char *rows; /* rows parted by ';', each "head<body"; atoms are letters, '-' before a negative one */
+    const char *pair; /* two letters, or none */
+    uint16_t flags;
+    const char *sets; /* the answer sets, then the pick after '/'; no pick where it is refused by 10 */
+} Case;
+
+enum { CASES = 16 };
+extern const Case cases[CASES];
+void case_page(Page *page, const Case *c);
+#endif

@@ -1,0 +1,386 @@
+/* The driver: every call of the engine against the second solver, on hand-made, generated and damaged pages.
+   drive [SEED [COUNT [STOP]]]: the seed fixes the pages; COUNT of them are generated; it stops at STOP pages that
+   failed, since a broken engine may be slow too. The last line counts pages on which everything agreed, and those on
+   which something did not. It is linked with the engine's archive, or with a stand-in under the same names. */
+#include "cases.h"
+#include "solver.h"
+
+int printf(const char *, ...);
+int fflush(void *);
+void *memcpy(void *, const void *, size_t);
+int memcmp(const void *, const void *, size_t);
+unsigned long strtoul(const char *, char **, int);
+void *mmap(void *, size_t, int, int, int, long);
+int mprotect(void *, size_t, int);
+
+typedef uint32_t (*Test)(const uint8_t *, size_t, uint16_t, uint16_t);
+typedef uint32_t (*List)(const uint8_t *, size_t, uint16_t, uint16_t *, size_t);
+
+static Random rng;
+static Solved solved;
+
+/* What is being asked, for the report. */
+static struct {
+    long number;
+    uint8_t *lent;
+    const uint8_t *copy;
+    size_t length;
+    uint16_t flags;
+    long wrong;
+} page;
+
+static long calls, shown, picks_left_out, bests_left_out, refusals[14], sets_seen;
+
+/* ---- reports ---- */
+
+enum { MOST_SHOWN = 5 };
+
+/* Counts a disagreement; the first of each of the first few pages is shown, with all it takes to try it again. */
+static int disagrees(const char *call) {
+    page.wrong++;
+    if (page.wrong > 1 || shown >= MOST_SHOWN) return 0;
+    shown++;
+    printf("disagreement %ld: page %ld, call %s\n  page of %lu bytes:", shown, page.number, call, (unsigned long)page.length);
+    for (size_t i = 0; i < page.length && i < 900; i++) printf(" %02x", page.copy[i]);
+    printf("\n  flags 0x%04x", page.flags);
+    return 1;
+}
+
+/* ---- memory to lend ---- */
+
+/* The page stands against a part of memory that may not be touched, after it or before it, and guard bytes stand on
+   the other side: a byte read outside the page ends the run, a byte written is seen. */
+enum { WALL = 65536, YARD = 3 * 65536, GUARD = 64 };
+static uint8_t *yard, *before_call, long_copy[YARD];
+
+static int build_walls(void) {
+    uint8_t *all = mmap(0, YARD + 3 * WALL, 0, 0x22, -1, 0); /* no access; private, from no file */
+    if ((long)(size_t)all == -1) return 0;
+    yard = all + WALL + (WALL - (size_t)all % WALL) % WALL;
+    return mprotect(yard, YARD, 3) == 0; /* read and write */
+}
+
+static void lend_page(const uint8_t *bytes, size_t length) {
+    int at_end = one_in(&rng, 2);
+    page.lent = at_end ? yard + YARD - length : yard;
+    before_call = at_end ? page.lent - GUARD : yard;
+    for (int i = 0; i < GUARD; i++) (at_end ? page.lent - GUARD : page.lent + length)[i] = (uint8_t)random_below(&rng, 256);
+    memcpy(page.lent, bytes, length);
+    memcpy(long_copy, before_call, length + GUARD);
+    page.copy = long_copy + (page.lent - before_call);
+    page.length = length;
+}
+
+static void check_page_memory(const char *call) {
+    if (memcmp(long_copy, before_call, page.length + GUARD) != 0) {
+        if (disagrees(call)) printf("\n  the call changed the page, or bytes beside it\n");
+        memcpy(before_call, long_copy, page.length + GUARD);
+    }
+}
+
+/* ---- comparing one call ---- */
+
+static void compare_result(const char *call, uint32_t got, Answer want, uint16_t set, uint16_t other, size_t room) {
+    calls++;
+    refusals[want.number]++;
+    if (got != want.number * 65536 + want.value && disagrees(call))
+        printf(", set 0x%04x, second set 0x%04x, room %lu\n  engine: number %u value %u; second solver: number %u value %u\n",
+               set, other, (unsigned long)room, PIPEOTTER_NUMBER(got), PIPEOTTER_VALUE(got), want.number, want.value);
+    check_page_memory(call);
+}
+
+static void ask_test(const char *call, Test test, uint16_t set, Answer want) {
+    compare_result(call, test(page.lent, page.length, page.flags, set), want, set, 0, 0);
+}
+
+static void ask_pick(void) {
+    compare_result("pick", pipeotter_pick(page.lent, page.length, page.flags), second_pick(&solved), 0, 0, 0);
+}
+
+static void ask_compare(uint16_t first, uint16_t second) {
+    Answer want = second_compare(&solved, first, second);
+    compare_result("compare", pipeotter_compare(page.lent, page.length, page.flags, first, second), want, first, second, 0);
+}
+
+/* What stands in a lent entry before the call: it differs from place to place and from call to call. */
+static uint16_t filling(size_t i, uint32_t salt) { return (uint16_t)((salt + i) * 40503u ^ salt >> 16); }
+
+static void ask_list(const char *call, List list, const uint16_t *sets, size_t room, Answer want) {
+    static uint16_t memory[GUARD + 65536 + 64 + GUARD];
+    uint32_t salt = random_below(&rng, 0xFFFFFFFF);
+    size_t whole = room + 2 * GUARD;
+    for (size_t i = 0; i < whole; i++) memory[i] = filling(i, salt);
+    compare_result(call, list(page.lent, page.length, page.flags, memory + GUARD, room), want, 0, 0, room);
+    for (size_t i = 0; i < whole; i++) {
+        int stored = i >= GUARD && i < GUARD + want.value;
+        uint16_t right = stored ? sets[i - GUARD] : filling(i, salt);
+        if (memory[i] == right) continue;
+        if (disagrees(call))
+            printf(", room %lu\n  entry %ld: engine 0x%04x, second solver 0x%04x (%s)\n", (unsigned long)room, (long)i - GUARD,
+                   memory[i], right, stored ? "a set of the list" : "must stay as it was");
+        break;
+    }
+}
+
+static void ask_degrees(uint16_t set, size_t room) {
+    static uint8_t memory[GUARD + 64 + GUARD];
+    uint8_t degrees[32];
+    uint32_t salt = random_below(&rng, 0xFFFFFFFF);
+    Answer want = second_degrees(&solved, set, room, degrees);
+    size_t whole = room + 2 * GUARD;
+    for (size_t i = 0; i < whole; i++) memory[i] = (uint8_t)filling(i, salt);
+    compare_result("degrees", pipeotter_degrees(page.lent, page.length, page.flags, set, memory + GUARD, room), want, set, 0, room);
+    for (size_t i = 0; i < whole; i++) {
+        int stored = i >= GUARD && i < GUARD + want.value;
+        uint8_t right = stored ? degrees[i - GUARD] : (uint8_t)filling(i, salt);
+        if (memory[i] == right) continue;
+        if (disagrees("degrees"))
+            printf(", set 0x%04x, room %lu\n  byte %ld: engine %u, second solver %u (%s)\n", set, (unsigned long)room, (long)i - GUARD,
+                   memory[i], right, stored ? "a degree" : "must stay as it was");
+        break;
+    }
+}
+
+/* ---- what to ask of one page and one flag word ---- */
+
+static int any_set(void) { return (int)random_below(&rng, 1u << solved.atoms); }
+static uint16_t any_answer(void) { return solved.set[random_below(&rng, (uint32_t)solved.sets)]; }
+
+/* How many numbers the engine has to test: one for each way to add head atoms to the flags. */
+static long span(void) {
+    uint32_t reach = page.flags;
+    for (int r = 0; r < solved.rules; r++)
+        for (int k = 0; k < solved.rule[r].heads; k++) reach |= 1u << solved.rule[r].head[k];
+    return 1L << __builtin_popcount(reach & ~(uint32_t)page.flags);
+}
+
+/* The dear calls are asked as often as a budget of visited rows allows, at least now and then. */
+static int affordable(long rows_visited, long budget) {
+    return rows_visited <= budget || (rows_visited <= 64 * budget && one_in(&rng, 64));
+}
+
+/* The first place from `from` on whose set is preferred to set m (or, with `better` 0, to which m is not preferred). */
+static int seek(int from, int m, int better) {
+    int i = from;
+    while (i < solved.sets && (better ? !second_prefers(&solved, i, m) : second_prefers(&solved, m, i))) i++;
+    return i;
+}
+
+/* How many rows an engine visits that goes from set to set, climbs to a champion and skips what it beats, until the
+   first best set or past the last. A page with thousands of sets may take minutes; this is told beforehand, on the
+   answer sets alone, and given up at the limit. */
+static long climb(int to_last, long limit) {
+    long visits = 0, each = span() * (solved.rules + 1) / (solved.sets + 1) + 1;
+    for (int m = 0, champion = -1; m < solved.sets && visits * each <= limit;) {
+        int n = seek(0, m, 1);
+        visits += n + 1;
+        if (n == solved.sets && !to_last) break;
+        for (int c = n; c < solved.sets; visits += c - champion) {
+            champion = c;
+            c = seek(c + 1, c, 1);
+        }
+        int next = champion < 0 ? m + 1 : seek(m + 1, champion, 0);
+        visits += next - m;
+        m = next;
+    }
+    return (visits + solved.sets) * each;
+}
+
+enum { DEAR = 50000, TOO_DEAR = 50000000 };
+
+static void ask_about_set(uint16_t set) {
+    long rules = solved.rules + 1, parts = 1L << __builtin_popcount(set);
+    ask_test("reduct_test", pipeotter_reduct_test, set, second_test(&solved, set));
+    if (affordable(parts * rules, 20000)) ask_test("here_there_test", pipeotter_here_there_test, set, second_test(&solved, set));
+    if (solved.split_number > 4096 || affordable(solved.split_number * rules, 3000))
+        ask_test("split_test", pipeotter_split_test, set, second_split(&solved, set));
+}
+
+static void ask_about_sets(void) {
+    if (solved.atoms <= 4) {
+        for (int set = 0; set < 1 << solved.atoms; set++) ask_about_set((uint16_t)set);
+    } else {
+        for (int i = 0; i < 6; i++) ask_about_set((uint16_t)any_set());
+        for (int i = 0; i < 6 && solved.sets > 0; i++) {
+            uint16_t set = any_answer();
+            ask_about_set(set);
+            ask_about_set((uint16_t)(set ^ 1u << random_below(&rng, (uint32_t)solved.atoms))); /* a neighbour */
+        }
+        ask_about_set(page.flags);
+    }
+}
+
+/* Sets with bits at A and above are refused by 9, before a short room (11), too many split programs (12) or no answer set (13). */
+static void ask_stray_sets(void) {
+    for (int i = 0; i < 3 && solved.atoms < 16; i++) {
+        uint16_t good = solved.sets ? any_answer() : (uint16_t)any_set();
+        uint16_t set = (uint16_t)(good | 1u << (i == 0 ? solved.atoms : i == 1 ? 15 : (int)random_below(&rng, 16)));
+        ask_test("reduct_test", pipeotter_reduct_test, set, second_test(&solved, set));
+        if (set >> solved.atoms) { /* for these two a set that fits may be dear */
+            ask_test("here_there_test", pipeotter_here_there_test, set, second_test(&solved, set));
+            ask_test("split_test", pipeotter_split_test, set, second_split(&solved, set));
+        }
+        ask_degrees(set, (size_t)solved.page_rows);
+        ask_degrees(set, 0);
+        ask_compare(set, good);
+        ask_compare(good, set);
+        ask_compare(set, set);
+    }
+}
+
+static void ask_ranking(void) {
+    size_t rows = (size_t)solved.page_rows;
+    uint16_t other = (uint16_t)any_set();
+    for (int i = 0; i < 4; i++) {
+        uint16_t set = solved.sets && i < 3 ? any_answer() : other;
+        ask_degrees(set, rows);
+        if (rows > 0) ask_degrees(set, rows - 1);
+        ask_degrees(set, rows + 1 + random_below(&rng, 9));
+    }
+    ask_compare(other, (uint16_t)any_set());
+    if (solved.sets == 0) return;
+    for (int i = 0; i < 8; i++) ask_compare(any_answer(), any_answer());
+    uint16_t set = any_answer();
+    ask_compare(set, set);
+    ask_compare(set, other);
+    ask_compare(other, set);
+}
+
+static void ask_in_rooms(const char *call, List list, const uint16_t *sets, size_t count, Answer (*want)(const Solved *, size_t), int dear) {
+    ask_list(call, list, sets, count, want(&solved, count));
+    if (count > 0 && (!dear || one_in(&rng, 4))) ask_list(call, list, sets, count - 1, want(&solved, count - 1));
+    if (dear) return;
+    ask_list(call, list, sets, 0, want(&solved, 0));
+    size_t more = count + 1 + random_below(&rng, 40);
+    ask_list(call, list, sets, more, want(&solved, more));
+}
+
+static void ask_lists(void) {
+    long visits = span() * (solved.rules + 1), bests = visits + climb(1, TOO_DEAR);
+    ask_in_rooms("list", pipeotter_list, solved.set, (size_t)solved.sets, second_list, visits > DEAR);
+    if (bests > TOO_DEAR) bests_left_out++;
+    else ask_in_rooms("best", pipeotter_best, solved.best, (size_t)solved.bests, second_best, bests > DEAR);
+    if (bests > TOO_DEAR && climb(0, TOO_DEAR) > TOO_DEAR) picks_left_out++;
+    else ask_pick();
+}
+
+/* A refused page or flag word: every call is asked, with rooms that would and would not do. */
+static void ask_refused(void) {
+    for (int i = 0; i < 2; i++) {
+        uint16_t set = (uint16_t)random_below(&rng, i ? 65536 : 2), other = (uint16_t)random_below(&rng, 65536);
+        ask_test("reduct_test", pipeotter_reduct_test, set, second_test(&solved, set));
+        ask_test("here_there_test", pipeotter_here_there_test, set, second_test(&solved, set));
+        ask_test("split_test", pipeotter_split_test, set, second_split(&solved, set));
+        ask_degrees(set, i ? 40 : 0);
+        ask_compare(set, i ? other : set);
+        ask_list("list", pipeotter_list, solved.set, i ? 100 : 0, second_list(&solved, i ? 100 : 0));
+        ask_list("best", pipeotter_best, solved.best, i ? 100 : 0, second_best(&solved, i ? 100 : 0));
+    }
+    ask_pick();
+}
+
+static void ask_all(uint16_t flags) {
+    page.flags = flags;
+    second_solve(&solved, page.copy, page.length, flags);
+    if (solved.roads_differ && disagrees("none")) printf("\n  the second solver's own roads differ\n");
+    if (solved.page_fault || solved.flags_fault) {
+        ask_refused();
+        return;
+    }
+    sets_seen += solved.sets;
+    ask_lists();
+    ask_about_sets();
+    ask_stray_sets();
+    ask_ranking();
+}
+
+/* ---- one page, with flag words that suit it ---- */
+
+static uint16_t some_flags(int atoms) {
+    uint32_t all = (1u << atoms) - 1, word = random_below(&rng, 65536) & all;
+    return (uint16_t)(one_in(&rng, 3) ? word : word & random_below(&rng, 65536) & random_below(&rng, 65536));
+}
+
+static void try_page(const uint8_t *bytes, size_t length) {
+    page.number++;
+    page.wrong = 0;
+    lend_page(bytes, length);
+    if (length >= 18 && bytes[2] >= 1 && bytes[2] <= 16) {
+        int atoms = bytes[2];
+        ask_all(page.number <= CASES + HAND_MADE || one_in(&rng, 2) ? 0 : some_flags(atoms));
+        if (atoms <= 6) ask_all(some_flags(atoms));
+        if (one_in(&rng, 4)) ask_all((uint16_t)(1u << (atoms - 1))); /* the highest bit that is allowed */
+        if (atoms < 16 && one_in(&rng, 4)) ask_all((uint16_t)(some_flags(atoms) | 1u << atoms)); /* the lowest that is not */
+        if (atoms < 16 && one_in(&rng, 8)) ask_all((uint16_t)random_below(&rng, 65536));
+    } else {
+        ask_all((uint16_t)random_below(&rng, 65536));
+    }
+}
+
+/* A page with known results: the second solver against the document, before the engine is held to the second solver. */
+static void try_case(const Case *c) {
+    Page made;
+    case_page(&made, c);
+    page.number++;
+    page.wrong = 0;
+    lend_page(made.byte, made.length);
+    ask_all(c->flags);
+    const char *text = c->sets;
+    int right = 1;
+    for (int i = 0; i < solved.sets; i++) {
+        char *end;
+        right &= *text != 0 && *text != '/' && strtoul(text, &end, 10) == solved.set[i];
+        text = right ? end + 1 : "";
+    }
+    right &= solved.sets ? *text == '/' && strtoul(text + 1, 0, 10) == second_pick(&solved).value : *text == 0;
+    if (!right && disagrees("none")) printf("\n  the second solver does not find the sets and pick of the document: %s\n", c->sets);
+}
+
+/* Lent 65,536 bytes more than the page has: 16 bits of its length are right, and it must be refused all the same. */
+static void try_too_long(const Page *made) {
+    static uint8_t memory[65536 + sizeof made->byte];
+    memcpy(memory, made->byte, made->length);
+    try_page(memory, 65536 + made->length);
+}
+
+static int letters_differ(void) {
+    for (uint32_t n = 0; n < 65536; n++)
+        if (pipeotter_letter((uint16_t)n) != second_letter((uint16_t)n)) {
+            printf("letter of %u: engine %u, second solver %u\n", n, pipeotter_letter((uint16_t)n), second_letter((uint16_t)n));
+            return 1;
+        }
+    return 0;
+}
+
+int main(int words, char **word) {
+    unsigned long seed = words > 1 ? strtoul(word[1], 0, 0) : 1, count = words > 2 ? strtoul(word[2], 0, 0) : 20000;
+    long passed = 0, failed = 0, stop = words > 3 ? (long)strtoul(word[3], 0, 0) : 20;
+    Page made;
+    if (!build_walls()) {
+        printf("no memory\n0 passed, 1 failed\n");
+        return 2;
+    }
+    rng.state = seed;
+    *(letters_differ() ? &failed : &passed) += 1;
+    for (unsigned long i = 0; i < CASES + HAND_MADE + count && failed < stop; i++) {
+        if (i < CASES) try_case(&cases[i]);
+        else if (i < CASES + HAND_MADE) {
+            hand_made_page(&made, (int)(i - CASES));
+            try_page(made.byte, made.length);
+        } else {
+            if (one_in(&rng, 3)) damage(&made, &rng);
+            else generated_page(&made, &rng);
+            if (one_in(&rng, 400)) try_too_long(&made);
+            else try_page(made.byte, made.length);
+        }
+        *(page.wrong ? &failed : &passed) += 1;
+    }
+    if (failed >= stop) printf("stopped at page %ld\n", page.number);
+    printf("seed %lu: the letters, %d pages with known results, %d made by hand, %lu generated; %ld calls compared, %ld answer sets listed\n",
+           seed, CASES, HAND_MADE, count, calls, sets_seen);
+    printf("answers by number:");
+    for (int n = 0; n < 14; n++) printf(" %d:%ld", n, refusals[n]);
+    printf("\nnot asked, being too dear: best %ld times, pick %ld times\n%ld passed, %ld failed\n", bests_left_out, picks_left_out, passed, failed);
+    fflush(0);
+    return failed != 0;
+}

@@ -1,0 +1,26 @@
+/* The plain C solver under the engine's names, for trying the driver without the engine. */
+#include "../../bench/plain.h"
+
+uint32_t pipeotter_pick(const uint8_t *page, size_t length, uint16_t flags) { return plain_pick(page, length, flags); }
+uint32_t pipeotter_reduct_test(const uint8_t *page, size_t length, uint16_t flags, uint16_t set) {
+    return plain_reduct_test(page, length, flags, set);
+}
+uint32_t pipeotter_here_there_test(const uint8_t *page, size_t length, uint16_t flags, uint16_t set) {
+    return plain_here_there_test(page, length, flags, set);
+}
+uint32_t pipeotter_split_test(const uint8_t *page, size_t length, uint16_t flags, uint16_t set) {
+    return plain_split_test(page, length, flags, set);
+}
+uint32_t pipeotter_list(const uint8_t *page, size_t length, uint16_t flags, uint16_t *sets, size_t room) {
+    return plain_list(page, length, flags, sets, room);
+}
+uint32_t pipeotter_best(const uint8_t *page, size_t length, uint16_t flags, uint16_t *sets, size_t room) {
+    return plain_best(page, length, flags, sets, room);
+}
+uint32_t pipeotter_degrees(const uint8_t *page, size_t length, uint16_t flags, uint16_t set, uint8_t *degrees, size_t room) {
+    return plain_degrees(page, length, flags, set, degrees, room);
+}
+uint32_t pipeotter_compare(const uint8_t *page, size_t length, uint16_t flags, uint16_t first, uint16_t second) {
+    return plain_compare(page, length, flags, first, second);
+}
+uint8_t pipeotter_letter(uint16_t number) { return plain_letter(number); }
