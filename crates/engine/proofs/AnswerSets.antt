@@ -9,9 +9,9 @@ use native.Mathlib.Nat.{lt-of-le-of-lt}
 use native.Mathlib.Omega.{arith}
 use lib.Pow.{pow-pos, pow-mono}
 use lib.Bits.{or-lt}
-use lib.Dec.{T, ltb, lt→ltb}
+use lib.Dec.{T}
 use Rattle.atoms.specs.Atoms.{inside, union}
-use Rattle.atoms.proofs.Truth.{and-r, both, yes-true, same-yes}
+use Rattle.atoms.proofs.Truth.{and-r, both, same-yes}
 use Rattle.atoms.proofs.Bits.{inside-test, inside-le}
 use Rattle.atoms.proofs.Count.{insert-lt}
 use Rattle.lpod.specs.Lists.{keep, below}
@@ -19,6 +19,7 @@ use Rattle.lpod.specs.Rule.{Rule, setOf, headAtoms}
 use Rattle.lpod.specs.Answer.{answer, answerSets}
 use Rattle.lpod.specs.Preferred.{preferred}
 use Rattle.lpod.specs.Best.{noneOver, bestOf, bestSets}
+use Rattle.lpod.proofs.Lists.{in-numbers}
 use Rattle.lpod.proofs.Between.{flags-inside, inside-heads}
 use Rattle.page.specs.Fields.{atomCount}
 use Rattle.page.specs.Program.{rowsOf, program}
@@ -26,20 +27,17 @@ use Rattle.page.specs.Refusals.{flagNo}
 use Rattle.page.proofs.Accepted.{ranges}
 use Rattle.page.proofs.AcceptedAtoms.{AtomsBelow, rows-below, flag-page, flags-below}
 use Rattle.engine.specs.Seek.{allFrom}
-use Rattle.engine.specs.Search.{atomsOf, topOf, tried, bestAmong, soughtBest}
+use Rattle.engine.specs.Marks.{topOf, tried, marked, answerMarks}
+use Rattle.engine.specs.Search.{bestAmong, soughtBest}
 use Rattle.engine.specs.Lists.{listing}
 use Rattle.engine.specs.Calls.{setsOf}
 use Rattle.engine.specs.declared.list.Which.{Which}
 use Rattle.engine.specs.declared.list.Which.the-variants.{All, Best}
+use Rattle.engine.proofs.Heads.{atoms-set}
+use Rattle.engine.proofs.Blocks.{marks-say}
 use Rattle.engine.proofs.Kept.{keep-same, keep-both, keep-short}
 
 -- ---- a list of atoms as a set
-atoms-set : (l : List ℕ) → AtomsBelow 16 l → atomsOf l ≡ setOf l
-unfolding atomsOf keep setOf
-atoms-set [] h = refl
-atoms-set (a ∷ l) h =
-    rw (yes-true (ltb a 16) (lt→ltb a 16 (h a (List·Memᴰ·head refl)))) (ap (λ (s : ℕ). union s (2 ^ a)) (atoms-set l (λ b m. h b (List·Memᴰ·tail m))))
-
 set-below : (n : ℕ) (l : List ℕ) → AtomsBelow n l → setOf l < 2 ^ n
 unfolding setOf
 set-below n [] h = pow-pos n
@@ -90,24 +88,27 @@ module _ (page : List ℕ) (flags : ℕ) (w : flags < 2 ^ 16) (h : flagNo page f
   tried-answer s t =
       and-r (inside s (topOf page flags)) (answer (program page flags) s) (and-r (inside flags s) (inside s (topOf page flags) && answer (program page flags) s) t)
 
-  all-answers : allFrom (tried (program page flags) (topOf page flags)) 0 ≡ answerSets (program page flags)
-  unfolding allFrom answerSets program
+  all-answers : allFrom (marked (answerMarks page flags)) 0 ≡ answerSets (program page flags)
+  unfolding allFrom answerSets answerMarks program
   all-answers =
-      keep-same (tried (program page flags) (topOf page flags)) (answer (program page flags)) (λ s. same-yes _ _ (tried-answer s) (answer-tried s)) (below 65536)
+      keep-same (marked (answerMarks page flags)) (answer (program page flags)) (below 65536)
+      (λ s m.
+      marks-say (tried (program page flags) (topOf page flags)) s (omega (arith, in-numbers 0 65536 s m .1))
+      ∙ same-yes (tried (program page flags) (topOf page flags) s) (answer (program page flags) s) (tried-answer s) (answer-tried s))
       ∙ keep-short (answer (program page flags)) (2 ^ atomCount page) 65536 (pow-mono most) answer-below
 
-  all-best : allFrom (soughtBest page flags (topOf page flags)) 0 ≡ bestSets (program page flags)
+  all-best : allFrom (soughtBest page flags (answerMarks page flags)) 0 ≡ bestSets (program page flags)
   unfolding bestSets
   all-best =
-      best-of-all (preferred (program page flags)) (tried (program page flags) (topOf page flags)) ∙ ap (bestOf (preferred (program page flags))) all-answers
+      best-of-all (preferred (program page flags)) (marked (answerMarks page flags)) ∙ ap (bestOf (preferred (program page flags))) all-answers
 
-  sets-found : (which : Which) → allFrom (listing page flags (topOf page flags) which) 0 ≡ setsOf which (program page flags)
+  sets-found : (which : Which) → allFrom (listing page flags (answerMarks page flags) which) 0 ≡ setsOf which (program page flags)
   unfolding listing setsOf
   sets-found All = all-answers
   sets-found Best = all-best
 
--- in the words of the code: the call's number is 0, and top is what was made
-pub all-sets : (page : List ℕ) (flags k top : ℕ) (which : Which) → flags < 2 ^ 16 → k ≡ flagNo page flags → k ≡ 0 → top ≡ topOf page flags
-    → allFrom (listing page flags top which) 0 ≡ setsOf which (program page flags)
-all-sets page flags k top which w e z et =
-    ap (λ (t : ℕ). allFrom (listing page flags t which) 0) et ∙ sets-found page flags w (sym e ∙ z) which
+-- in the words of the code: the call's number is 0, and the marks are those that were made
+pub all-sets : (page : List ℕ) (flags k : ℕ) (marks : List ℕ) (which : Which) → flags < 2 ^ 16 → k ≡ flagNo page flags → k ≡ 0
+    → marks ≡ answerMarks page flags → allFrom (listing page flags marks which) 0 ≡ setsOf which (program page flags)
+all-sets page flags k marks which w e z em =
+    ap (λ (l : List ℕ). allFrom (listing page flags l which) 0) em ∙ sets-found page flags w (sym e ∙ z) which

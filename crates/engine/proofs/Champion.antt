@@ -1,7 +1,7 @@
 -- The least best set, found by a champion: over any test that sets pass and any relation that says which of two is preferred. A set to which
 -- one that passes is preferred is not best; so of the sets to which a champion is preferred none is, whatever the relation. Assumes nothing.
 use mathlib.Core.Path.{_≡_, refl, sym, ap, _∙_, subst}
-use mathlib.Core.Bool.{Bool, true, false, _&&_, not}
+use mathlib.Core.Bool.{Bool, true, false, _&&_, not, and-true, and-false}
 use mathlib.Core.List.{List, List·Memᴰ}
 use Prim.Native.Nat.{ℕ, _+_, _≤_, _<_}
 use native.Mathlib.Decide.{ℕ-discrete, decLe}
@@ -16,7 +16,7 @@ use Rattle.engine.specs.Seek.{nextFrom, allFrom}
 use Rattle.engine.specs.Search.{ranked, fits, bestAmong}
 use Rattle.engine.specs.declared.search.Wanted.{Wanted}
 use Rattle.engine.specs.declared.search.Wanted.the-variants.{Any, Above, NotBelow}
-use Rattle.engine.proofs.Seek.{NoneBetween, next-ge, next-le, next-passes, next-miss, next-skip, next-past}
+use Rattle.engine.proofs.Seek.{NoneBetween, next-ge, next-le, next-passes, next-miss, next-at, next-skip, next-past}
 
 -- all sets that pass: those below 65,536
 module _ (q : ℕ → Bool) where
@@ -29,6 +29,16 @@ module _ (q : ℕ → Bool) where
   all-in s l t = keep-in q (numbers 0 65536) s (numbers-in 0 65536 s (omega arith) (omega arith)) t
 
 module _ (over : ℕ → ℕ → Bool) (passes : ℕ → Bool) where
+  -- what is wanted, test by test
+  module _ (w : Wanted) (s : ℕ) (b : Bool) (e : b ≡ passes s) where
+    pub wanted-off : b ≡ false → false ≡ fits over passes w s
+    unfolding fits
+    wanted-off t = rw (← e, t) (sym (and-false (ranked over w s)))
+
+    pub wanted-on : b ≡ true → (r : Bool) → r ≡ ranked over w s → r ≡ fits over passes w s
+    unfolding fits
+    wanted-on t r er = rw (← e, t, ← er) (sym (and-true r))
+
   is-passing : (s : ℕ) → T (bestAmong over passes s) → T (passes s)
   unfolding bestAmong
   is-passing s t = and-l (passes s) (noneOver over (allFrom passes 0) s) t
@@ -72,11 +82,11 @@ module _ (over : ℕ → ℕ → Bool) (passes : ℕ → Bool) where
       go (no l) = ap (nextFrom (bestAmong over passes)) (sym (next-past (fits over passes Any) i (omega arith)) ∙ sym e)
 
   -- no set is preferred to m: it is best
-  pub best-here : (m n : ℕ) → T (passes m) → n ≡ nextFrom (fits over passes (Above m)) 0 → 65536 ≤ n → T (bestAmong over passes m)
+  pub best-here : (m n : ℕ) → m < 65536 → T (passes m) → n ≡ nextFrom (fits over passes (Above m)) 0 → 65536 ≤ n → nextFrom (bestAmong over passes) m ≡ m
   unfolding bestAmong ranked
-  best-here m n t e h =
-      both (passes m) (noneOver over (allFrom passes 0) m) t
-      (says-none over (allFrom passes 0) m (λ y k o. let i = in-all passes y k in missed (Above m) 0 n e y (omega arith) (omega (arith, i .0)) o (i .1)))
+  best-here m n l t e h =
+      next-at (bestAmong over passes) m l (both (passes m) (noneOver over (allFrom passes 0) m) t
+      (says-none over (allFrom passes 0) m (λ y k o. let i = in-all passes y k in missed (Above m) 0 n e y (omega arith) (omega (arith, i .0)) o (i .1))))
 
   -- n is preferred to m, and c passes: neither m nor any set to which c is preferred is best
   pub best-on : (m n c m′ : ℕ) → m < 65536 → n ≡ nextFrom (fits over passes (Above m)) 0 → n < 65536 → c < 65536 → T (passes c)

@@ -31,7 +31,8 @@ use Rattle.routes.specs.declared.split.Split.{Split}
 use Rattle.engine.specs.Calls.{SetsSay, ListSays, BestSays, PickSays}
 use Rattle.engine.specs.Degrees.{DegreesSays}
 use Rattle.engine.specs.Compare.{CompareSays}
-use Rattle.engine.specs.Search.{topOf, sought, soughtBest}
+use Rattle.engine.specs.Marks.{marked, answerMarks}
+use Rattle.engine.specs.Search.{sought, soughtBest}
 use Rattle.engine.specs.Seek.{nextFrom}
 use Rattle.engine.specs.declared.list.Listed.{Listed}
 use Rattle.engine.specs.declared.pick.Picked.{Picked}
@@ -48,16 +49,22 @@ one-answer p q = p ∙ sym q
 -- atoms
 pub holds : (s a : ℕ) (x y : Bool) → x ≡ sets.has s a → y ≡ sets.has s a → x ≡ y
 holds s a x y = one-answer
+
 pub with-atom : (s a : ℕ) (x y : ℕ) → x ≡ sets.withAtom s a → y ≡ sets.withAtom s a → x ≡ y
 with-atom s a x y = one-answer
+
 pub part-of : (a b : ℕ) (x y : Bool) → x ≡ sets.inside a b → y ≡ sets.inside a b → x ≡ y
 part-of a b x y = one-answer
+
 pub union : (a b : ℕ) (x y : ℕ) → x ≡ sets.union a b → y ≡ sets.union a b → x ≡ y
 union a b x y = one-answer
+
 pub common : (a b : ℕ) (x y : ℕ) → x ≡ sets.common a b → y ≡ sets.common a b → x ≡ y
 common a b x y = one-answer
+
 pub how-many : (s : ℕ) (x y : ℕ) → x ≡ sets.howMany s → y ≡ sets.howMany s → x ≡ y
 how-many s x y = one-answer
+
 pub lowest : (s : ℕ) (x y : ℕ) → x ≡ sets.lowest s → y ≡ sets.lowest s → x ≡ y
 lowest s x y = one-answer
 
@@ -68,46 +75,65 @@ most-atoms x y = one-answer
 -- page::fields
 pub byte-at : (page : List ℕ) (i : ℕ) (x y : ℕ) → x ≡ fields.byteAt page i → y ≡ fields.byteAt page i → x ≡ y
 byte-at page i x y = one-answer
+
 pub word-at : (page : List ℕ) (i : ℕ) (x y : ℕ) → x ≡ fields.wordAt page i → y ≡ fields.wordAt page i → x ≡ y
 word-at page i x y = one-answer
+
 pub form-of : (page : List ℕ) (x y : ℕ) → x ≡ fields.formOf page → y ≡ fields.formOf page → x ≡ y
 form-of page x y = one-answer
+
 pub atom-count : (page : List ℕ) (x y : ℕ) → x ≡ fields.atomCount page → y ≡ fields.atomCount page → x ≡ y
 atom-count page x y = one-answer
+
 pub row-count : (page : List ℕ) (x y : ℕ) → x ≡ fields.rowCount page → y ≡ fields.rowCount page → x ≡ y
 row-count page x y = one-answer
+
 pub literal-count : (page : List ℕ) (x y : ℕ) → x ≡ fields.literalCount page → y ≡ fields.literalCount page → x ≡ y
 literal-count page x y = one-answer
+
 pub pair-count : (page : List ℕ) (x y : ℕ) → x ≡ fields.pairCount page → y ≡ fields.pairCount page → x ≡ y
 pair-count page x y = one-answer
+
 pub rows-at : (page : List ℕ) (x y : ℕ) → x ≡ fields.rowsAt page → y ≡ fields.rowsAt page → x ≡ y
 rows-at page x y = one-answer
+
 pub literals-at : (page : List ℕ) (x y : ℕ) → x ≡ fields.literalsAt page → y ≡ fields.literalsAt page → x ≡ y
 literals-at page x y = one-answer
+
 pub pairs-at : (page : List ℕ) (x y : ℕ) → x ≡ fields.pairsAt page → y ≡ fields.pairsAt page → x ≡ y
 pairs-at page x y = one-answer
+
 pub end-of : (page : List ℕ) (x y : ℕ) → x ≡ fields.endOf page → y ≡ fields.endOf page → x ≡ y
 end-of page x y = one-answer
+
 pub head-count : (page : List ℕ) (r : ℕ) (x y : ℕ) → x ≡ fields.headCount page r → y ≡ fields.headCount page r → x ≡ y
 head-count page r x y = one-answer
+
 pub pos-count : (page : List ℕ) (r : ℕ) (x y : ℕ) → x ≡ fields.posCount page r → y ≡ fields.posCount page r → x ≡ y
 pos-count page r x y = one-answer
+
 pub neg-count : (page : List ℕ) (r : ℕ) (x y : ℕ) → x ≡ fields.negCount page r → y ≡ fields.negCount page r → x ≡ y
 neg-count page r x y = one-answer
+
 pub spare-byte : (page : List ℕ) (r : ℕ) (x y : ℕ) → x ≡ fields.spareByte page r → y ≡ fields.spareByte page r → x ≡ y
 spare-byte page r x y = one-answer
+
 pub literals-of : (page : List ℕ) (r : ℕ) (x y : ℕ) → x ≡ fields.literalsOf page r → y ≡ fields.literalsOf page r → x ≡ y
 literals-of page r x y = one-answer
 
 -- page::accept
 pub page-no : (page : List ℕ) (x y : ℕ) → x ≡ refusals.pageNo page → y ≡ refusals.pageNo page → x ≡ y
 page-no page x y = one-answer
+
 pub flags-out : (page : List ℕ) (flags : ℕ) (x y : Bool) → x ≡ refusals.flagsOut page flags → y ≡ refusals.flagsOut page flags → x ≡ y
 flags-out page flags x y = one-answer
+
 pub set-out : (page : List ℕ) (set : ℕ) (x y : Bool) → x ≡ refusals.setOut page set → y ≡ refusals.setOut page set → x ≡ y
 set-out page set x y = one-answer
+
 pub flag-no : (page : List ℕ) (flags : ℕ) (x y : ℕ) → x ≡ refusals.flagNo page flags → y ≡ refusals.flagNo page flags → x ≡ y
 flag-no page flags x y = one-answer
+
 pub test-no : (page : List ℕ) (flags set : ℕ) (x y : ℕ) → x ≡ refusals.testNo page flags set → y ≡ refusals.testNo page flags set → x ≡ y
 test-no page flags set x y = one-answer
 
@@ -118,36 +144,50 @@ letter number x y = one-answer
 -- page::rows
 pub row-from : (page : List ℕ) (n place : ℕ) (x y : Row) → x ≡ rows.rowFrom page n place → y ≡ rows.rowFrom page n place → x ≡ y
 row-from page n place x y = one-answer
+
 pub first-place : (page : List ℕ) (x y : ℕ) → x ≡ fields.literalsAt page → y ≡ fields.literalsAt page → x ≡ y
 first-place page x y = one-answer
+
 pub place-after : (row : Row) (x y : ℕ) → x ≡ rows.placeAfter row → y ≡ rows.placeAfter row → x ≡ y
 place-after row x y = one-answer
+
 pub place-of : (page : List ℕ) (n : ℕ) (x y : ℕ) → x ≡ literalPlace page n → y ≡ literalPlace page n → x ≡ y
 place-of page n x y = one-answer
+
 pub pos-in : (page : List ℕ) (row : Row) (s : ℕ) (x y : Bool) → x ≡ allIn (rows.ruleOf page row .pos) s → y ≡ allIn (rows.ruleOf page row .pos) s → x ≡ y
 pos-in page row s x y = one-answer
+
 pub neg-in : (page : List ℕ) (row : Row) (s : ℕ) (x y : Bool) → x ≡ someIn (rows.ruleOf page row .neg) s → y ≡ someIn (rows.ruleOf page row .neg) s → x ≡ y
 neg-in page row s x y = one-answer
+
 pub head-in : (page : List ℕ) (row : Row) (s : ℕ) (x y : Bool) → x ≡ someIn (rows.ruleOf page row .head) s → y ≡ someIn (rows.ruleOf page row .head) s → x ≡ y
 head-in page row s x y = one-answer
+
 pub head-place : (page : List ℕ) (row : Row) (s : ℕ) (x y : ℕ) → x ≡ place 1 (rows.ruleOf page row .head) s → y ≡ place 1 (rows.ruleOf page row .head) s → x ≡ y
 head-place page row s x y = one-answer
+
 pub head-atom : (page : List ℕ) (row : Row) (k : ℕ) (x y : ℕ) → x ≡ getD (rows.ruleOf page row .head) k 0 → y ≡ getD (rows.ruleOf page row .head) k 0 → x ≡ y
 head-atom page row k x y = one-answer
+
 pub body-holds : (page : List ℕ) (row : Row) (s : ℕ) (x y : Bool) → x ≡ bodyHolds (rows.ruleOf page row) s → y ≡ bodyHolds (rows.ruleOf page row) s → x ≡ y
 body-holds page row s x y = one-answer
+
 pub satisfied : (page : List ℕ) (row : Row) (s : ℕ) (x y : Bool) → x ≡ satisfies s (rows.ruleOf page row) → y ≡ satisfies s (rows.ruleOf page row) → x ≡ y
 satisfied page row s x y = one-answer
+
 pub row-degree : (page : List ℕ) (row : Row) (s : ℕ) (x y : ℕ) → x ≡ degree s (rows.ruleOf page row) → y ≡ degree s (rows.ruleOf page row) → x ≡ y
 row-degree page row s x y = one-answer
+
 pub no-pair : (page : List ℕ) (s : ℕ) (x y : Bool) → x ≡ noPair (pairsOf page) s → y ≡ noPair (pairsOf page) s → x ≡ y
 no-pair page s x y = one-answer
+
 pub rows-satisfied : (page : List ℕ) (s : ℕ) (x y : Bool) → x ≡ satisfiesAll s (rowsOf page) → y ≡ satisfiesAll s (rowsOf page) → x ≡ y
 rows-satisfied page s x y = one-answer
 
 -- routes::reduct
 pub least-of : (page : List ℕ) (flags set : ℕ) (x y : ℕ) → x ≡ least (reduct (rules (program page flags)) set) → y ≡ least (reduct (rules (program page flags)) set) → x ≡ y
 least-of page flags set x y = one-answer
+
 pub is-answer : (page : List ℕ) (flags set : ℕ) (x y : Bool) → x ≡ answer (program page flags) set → y ≡ answer (program page flags) set → x ≡ y
 is-answer page flags set x y = one-answer
 
@@ -155,13 +195,19 @@ is-answer page flags set x y = one-answer
 pub is-here-there : (page : List ℕ) (flags set : ℕ) (x y : Bool) → x ≡ hereThere (program page flags) set → y ≡ hereThere (program page flags) set → x ≡ y
 is-here-there page flags set x y = one-answer
 
+-- engine::marks
+pub answers : (page : List ℕ) (flags : ℕ) (x y : List ℕ) → x ≡ answerMarks page flags → y ≡ answerMarks page flags → x ≡ y
+answers page flags x y = one-answer
+
+pub is-marked : (marks : List ℕ) (set : ℕ) (x y : Bool) → x ≡ marked marks set → y ≡ marked marks set → x ≡ y
+is-marked marks set x y = one-answer
+
 -- engine::search
-pub top-of : (page : List ℕ) (flags : ℕ) (x y : ℕ) → x ≡ topOf page flags → y ≡ topOf page flags → x ≡ y
-top-of page flags x y = one-answer
-pub next : (page : List ℕ) (flags top : ℕ) (wanted : Wanted) (from : ℕ) (x y : ℕ) → x ≡ nextFrom (sought page flags top wanted) from → y ≡ nextFrom (sought page flags top wanted) from → x ≡ y
-next page flags top wanted from x y = one-answer
-pub next-best : (page : List ℕ) (flags top from : ℕ) (x y : ℕ) → x ≡ nextFrom (soughtBest page flags top) from → y ≡ nextFrom (soughtBest page flags top) from → x ≡ y
-next-best page flags top from x y = one-answer
+pub next : (page : List ℕ) (flags : ℕ) (marks : List ℕ) (wanted : Wanted) (from x y : ℕ) → x ≡ nextFrom (sought page flags marks wanted) from → y ≡ nextFrom (sought page flags marks wanted) from → x ≡ y
+next page flags marks wanted from x y = one-answer
+
+pub next-best : (page : List ℕ) (flags : ℕ) (marks : List ℕ) (from x y : ℕ) → x ≡ nextFrom (soughtBest page flags marks) from → y ≡ nextFrom (soughtBest page flags marks) from → x ≡ y
+next-best page flags marks from x y = one-answer
 
 -- engine::rank
 pub preferred-set : (page : List ℕ) (flags m n : ℕ) (x y : Bool) → x ≡ preferred (program page flags) m n → y ≡ preferred (program page flags) m n → x ≡ y

@@ -2,13 +2,13 @@
 -- are equal and at this one they are not, so no other degree can be the one that 000 Definition 6 asks for. Assumes nothing.
 use mathlib.Core.Path.{_≡_, refl, sym, ap, _∙_, subst}
 use mathlib.Core.Bool.{Bool, true, false, _&&_, _||_, not, cond}
-use mathlib.Core.Logic.{_⊎_, inl, inr, ⊎-elim, _↔_}
-use mathlib.Core.List.{List, List·Memᴰ}
+use mathlib.Core.Logic.{_⊎_, inl, inr, ⊎-elim}
+use mathlib.Core.List.{List}
 use Prim.Native.Nat.{ℕ, zero, suc, _^_, _≤_, _<_}
 use native.Mathlib.Omega.{arith}
 use native.Mathlib.Decide.{decLt}
 use lib.Dec.{T, eqb, eqb→eq, T-not, not-T}
-use borrow.Author.Tests.{eq-eqb, ne-eqb, eqb-true, eqb-false}
+use borrow.Author.Tests.{eq-eqb, eqb-true}
 use Rattle.atoms.specs.Atoms.{has, inside, common}
 use Rattle.atoms.proofs.Truth.{and-l, and-r, both, yes-true, no-false, true-yes, false-no, same-yes}
 use Rattle.atoms.proofs.Bits.{has-and, inside-test, test-inside}

@@ -2,15 +2,16 @@
 -- whole. A union is the same however it is put together. Assumes nothing.
 use mathlib.Core.Path.{_≡_, refl, sym, ap, _∙_}
 use mathlib.Core.Bool.{Bool, true, false, _||_, cond}
-use mathlib.Core.List.{List, [], _∷_, _++_}
-use Prim.Native.Nat.{ℕ, _^_}
-use lib.Dec.{ltb}
+use mathlib.Core.List.{List, [], _∷_, _++_, List·Memᴰ, List·Memᴰ·head, List·Memᴰ·tail}
+use Prim.Native.Nat.{ℕ, _^_, _<_}
+use lib.Dec.{ltb, lt→ltb}
 use lib.Bits.{bitOr, or-comm, or-zero-l, or-zero-r}
 use Rattle.atoms.specs.Atoms.{has, union, withAtom}
+use Rattle.atoms.proofs.Truth.{yes-true}
 use Rattle.atoms.proofs.Bits.{has-or, same-atoms}
 use Rattle.lpod.specs.Lists.{keep}
 use Rattle.lpod.specs.Rule.{Rule, setOf, headAtoms}
-use Rattle.engine.specs.Search.{atomsOf}
+use Rattle.engine.specs.Marks.{atomsOf}
 
 or-or : (a b c : Bool) → ((a || b) || c) ≡ (a || (b || c))
 or-or true b c = refl
@@ -63,3 +64,10 @@ heads-none s P e = rw e (atoms-none s [] refl)
 
 pub heads-all : (P : List Rule) → atomsOf (headAtoms P) ≡ union 0 (atomsOf (headAtoms P))
 heads-all P = sym (or-zero-l (atomsOf (headAtoms P)))
+
+-- a list of atoms below 16 is the set of all of them
+pub atoms-set : (l : List ℕ) → ((a : ℕ) → List·Memᴰ a l → a < 16) → atomsOf l ≡ setOf l
+unfolding atomsOf keep setOf
+atoms-set [] h = refl
+atoms-set (a ∷ l) h =
+    rw (yes-true (ltb a 16) (lt→ltb a 16 (h a (List·Memᴰ·head refl)))) (ap (λ (s : ℕ). union s (2 ^ a)) (atoms-set l (λ b m. h b (List·Memᴰ·tail m))))

@@ -10,12 +10,12 @@ use Rattle.atoms.proofs.Truth.{no-false}
 use Rattle.lpod.specs.Lists.{keep, numbers, below}
 use Rattle.lpod.proofs.Lists.{keep-append, in-numbers}
 
-pub keep-same : {A : Type 0} (f g : A → Bool) → ((x : A) → f x ≡ g x) → (l : List A) → keep f l ≡ keep g l
+pub keep-same : {A : Type 0} (f g : A → Bool) (l : List A) → ((x : A) → List·Memᴰ x l → f x ≡ g x) → keep f l ≡ keep g l
 unfolding keep
-keep-same f g e [] = refl
-keep-same {A} f g e (x ∷ l) = rw (e x, keep-same f g e l)
+keep-same f g [] e = refl
+keep-same f g (x ∷ l) e = rw (e x (List·Memᴰ·head refl), keep-same f g l (λ y m. e y (List·Memᴰ·tail m)))
 
-pub keep-none : {A : Type 0} (f : A → Bool) (l : List A) → ((x : A) → List·Memᴰ x l → T (f x) → ⊥) → keep f l ≡ []
+keep-none : {A : Type 0} (f : A → Bool) (l : List A) → ((x : A) → List·Memᴰ x l → T (f x) → ⊥) → keep f l ≡ []
 unfolding keep
 keep-none f [] n = refl
 keep-none f (x ∷ l) n = rw (no-false (f x) (n x (List·Memᴰ·head refl))) (keep-none f l (λ y m. n y (List·Memᴰ·tail m)))

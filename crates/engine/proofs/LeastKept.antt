@@ -26,6 +26,7 @@ pub record Side (at : ℕ → Bool) (k : ℕ) (flag : Bool) : Type 0 where
   pub here : 1 ≤ k → at k ≡ flag
   pub none : k ≡ 0 → flag ≡ false
 
+-- degree d besides, if f says so
 adds : (ℕ → Bool) → ℕ → Bool → ℕ → Bool
 adds at d f j = at j || (eqb d j && f)
 

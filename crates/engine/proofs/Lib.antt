@@ -6,11 +6,12 @@ pub mod Grading
 pub mod Comparing
 pub mod Seek
 pub mod Heads
-pub mod Wanted
 pub mod Champion
 pub mod LastRefusal
 pub mod SetsStored
 pub mod Kept
+pub mod Tried
+pub mod Blocks
 pub mod AnswerSets
 pub mod Picks
 pub mod Given

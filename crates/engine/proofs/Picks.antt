@@ -18,7 +18,8 @@ use Rattle.lpod.proofs.PickIsBest.{no-pick, pick-lowest}
 use Rattle.page.specs.Program.{program}
 use Rattle.page.specs.Refusals.{flagNo}
 use Rattle.engine.specs.Seek.{nextFrom, allFrom}
-use Rattle.engine.specs.Search.{topOf, soughtBest}
+use Rattle.engine.specs.Marks.{answerMarks}
+use Rattle.engine.specs.Search.{soughtBest}
 use Rattle.engine.specs.Lists.{listing}
 use Rattle.engine.specs.Calls.{setsOf, isEmpty, pickRefusals, pickNo, setOr, picked, PickSays}
 use Rattle.engine.specs.declared.list.Which.the-variants.{Best}
@@ -64,19 +65,19 @@ module _ (page : List ℕ) (flags k : ℕ) (e : k ≡ flagNo page flags) where
   unfolding pickNo pickRefusals picked
   pick-refused z = rw (← call-refused page flags k e 10 (isEmpty (answerSets (program page flags))) z, ne-eqb k 0 z)
 
-  module _ (w : flags < 2 ^ 16) (z : k ≡ 0) (top m : ℕ) (et : top ≡ topOf page flags) (em : m ≡ nextFrom (soughtBest page flags top) 0) where
-    bests : allFrom (soughtBest page flags top) 0 ≡ bestSets (program page flags)
+  module _ (w : flags < 2 ^ 16) (z : k ≡ 0) (marks : List ℕ) (m : ℕ) (et : marks ≡ answerMarks page flags) (em : m ≡ nextFrom (soughtBest page flags marks) 0) where
+    bests : allFrom (soughtBest page flags marks) 0 ≡ bestSets (program page flags)
     unfolding listing setsOf
-    bests = all-sets page flags k top Best w e z et
+    bests = all-sets page flags k marks Best w e z et
 
     pub pick-none : 65536 ≤ m → PickSays page flags (record { no = 10; set = 0 })
     unfolding pickNo pickRefusals picked pick
     pick-none l =
-        let n : pick (program page flags) ≡ none = ap firstOf (sym bests) ∙ first-missing (soughtBest page flags top) m em l in
+        let n : pick (program page flags) ≡ none = ap firstOf (sym bests) ∙ first-missing (soughtBest page flags marks) m em l in
         rw (← last-refused page flags k e 10 (isEmpty (answerSets (program page flags))) z (no-set (program page flags) n))
 
     pub pick-found : m < 65536 → PickSays page flags (record { no = 0; set = m })
     unfolding pickNo pickRefusals picked pick setOr
     pick-found l =
-        let n : pick (program page flags) ≡ some m = ap firstOf (sym bests) ∙ first-found (soughtBest page flags top) m em l in
+        let n : pick (program page flags) ≡ some m = ap firstOf (sym bests) ∙ first-found (soughtBest page flags marks) m em l in
         rw (← none-refused page flags k e 10 (isEmpty (answerSets (program page flags))) z (some-set (program page flags) m n), n)

@@ -25,20 +25,6 @@ module _ (q : ℕ → Bool) where
   abbrev pub NoneBetween : ℕ → ℕ → Type 0
   NoneBetween i j = (s : ℕ) → i ≤ s → s < j → T (q s) → ⊥
 
-  pub none-more : (i j : ℕ) (b : Bool) → NoneBetween i j → b ≡ q j → b ≡ false → NoneBetween i (j + 1)
-  none-more i j b f eb z s l h t = go (ℕ-discrete s j)
-    where
-      go : Dec (s ≡ j) → ⊥
-      go (yes e) = false-no (sym eb ∙ z) (subst (λ (x : ℕ). T (q x)) e t)
-      go (no e) = f s l (omega arith) t
-
-  pub none-past : (i j : ℕ) → NoneBetween i j → ((s : ℕ) → j ≤ s → T (q s) → ⊥) → (k : ℕ) → NoneBetween i k
-  none-past i j f g k s l h t = go (decLe j s)
-    where
-      go : Dec (j ≤ s) → ⊥
-      go (yes a) = g s a t
-      go (no a) = f s l (omega arith) t
-
   seek-ge : (i n : ℕ) → i ≤ seek q i n
   unfolding seek
   seek-ge i zero = le-refl i
@@ -111,13 +97,13 @@ module _ (q : ℕ → Bool) where
       go (yes a) (no b) = absurd (f (nextFrom q i) (next-ge i) (omega arith) (next-hit i (omega arith)))
       go (yes a) (yes b) = omega arith
 
-  pub next-found : (i m : ℕ) (b : Bool) → i ≤ m → m < 65536 → NoneBetween i m → b ≡ q m → b ≡ true → nextFrom q i ≡ m
-  next-found i m b l h f eb t = next-is i m l h f (true-yes (sym eb ∙ t))
+  pub next-at : (m : ℕ) → m < 65536 → T (q m) → nextFrom q m ≡ m
+  next-at m h t = next-is m m (le-refl m) h (λ s l k. absurd (omega arith)) t
 
-  pub next-here : (m : ℕ) → m < 65536 → T (q m) → nextFrom q m ≡ m
-  next-here m h t = next-is m m (le-refl m) h (λ s a b. absurd (omega arith)) t
+  pub next-here : (m : ℕ) (b : Bool) → m < 65536 → b ≡ q m → b ≡ true → nextFrom q m ≡ m
+  next-here m b h e t = next-at m h (true-yes (sym e ∙ t))
 
-  pub next-none : (i : ℕ) → i ≤ 65536 → NoneBetween i 65536 → nextFrom q i ≡ 65536
+  next-none : (i : ℕ) → i ≤ 65536 → NoneBetween i 65536 → nextFrom q i ≡ 65536
   next-none i l f = go (decLe 65536 (nextFrom q i))
     where
       go : Dec (65536 ≤ nextFrom q i) → nextFrom q i ≡ 65536
@@ -138,6 +124,10 @@ module _ (q : ℕ → Bool) where
       go : Dec (65536 ≤ nextFrom q j) → nextFrom q i ≡ nextFrom q j
       go (yes a) = let e : nextFrom q j ≡ 65536 = omega (arith, next-le j h) in next-none i (omega arith) (subst (NoneBetween i) e none) ∙ sym e
       go (no a) = next-is i (nextFrom q j) (omega (arith, next-ge j)) (omega arith) none (next-hit j (omega arith))
+
+  pub next-on : (i : ℕ) (b : Bool) → i < 65536 → b ≡ q i → b ≡ false → nextFrom q i ≡ nextFrom q (i + 1)
+  next-on i b h e t =
+      next-skip i (i + 1) (omega arith) (omega arith) (λ s l k u. let z : s ≡ i = omega arith in false-no (sym e ∙ t) (subst (λ (x : ℕ). T (q x)) z u))
 
   -- ---- all that pass
   pub all-past : (i : ℕ) → 65536 ≤ i → allFrom q i ≡ []

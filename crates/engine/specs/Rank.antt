@@ -11,10 +11,11 @@ use Rattle.lpod.specs.Preferred.{preferred}
 use Rattle.page.specs.Program.{program}
 use Rattle.engine.specs.declared.rank.Difference.{Difference}
 
--- what the call answers
+-- the statement of the call: the relation of lpod, for any page, flag word and sets
 abbrev pub PreferredSays : List ℕ → ℕ → ℕ → ℕ → Bool → Type 0
 PreferredSays page flags M N r = r ≡ preferred (program page flags) M N
 
+-- ---- how the pass goes. The statement does not rest on these: they stand between the code and the relation
 -- a row has degree d in one set alone, in the first or else in the second: it counts where it is the least so far; 0 is no degree
 unfoldable pub noted : Difference → ℕ → Bool → Difference
 noted f d first =

@@ -4,6 +4,7 @@ pub mod best;
 pub mod compare;
 pub mod degrees;
 pub mod list;
+pub mod marks;
 pub mod pick;
 pub mod rank;
 pub mod search;

@@ -8,6 +8,7 @@ ghost use Rattle.engine.specs.Seek.{nextFrom, allFrom};
 ghost use Rattle.page.specs.Program.{program};
 ghost use Rattle.engine.specs.Lists as lists;
 ghost use Rattle.engine.specs.Calls as means;
+use crate::marks;
 use crate::search;
 use page::accept;
 
@@ -24,39 +25,39 @@ pub enum Which {
 }
 
 // The least of these sets from `from` on.
-fn next_of(page: &[u8], flags: u16, top: u16, which: Which, from: u32) -> u32
-    ensures { λ r. ⌜ r ≡ nextFrom (lists.listing (now (page .entry)) flags top which) from ⌝ }
+fn next_of(page: &[u8], flags: u16, marks: &[u16], which: Which, from: u32) -> u32
+    ensures { λ r. ⌜ r ≡ nextFrom (lists.listing (now (page .entry)) flags (now (marks .entry)) which) from ⌝ }
 {
     match which {
-        Which::All => search::next(page, flags, top, search::Wanted::Any, from),
-        Which::Best => search::next_best(page, flags, top, from),
+        Which::All => search::next(page, flags, marks, search::Wanted::Any, from),
+        Which::Best => search::next_best(page, flags, marks, from),
     }
 }
 
 // How many there are.
-fn count(page: &[u8], flags: u16, top: u16, which: Which) -> u32
-    ensures { λ r. ⌜ r ≡ length (allFrom (lists.listing (now (page .entry)) flags top which) 0) ⌝ }
+fn count(page: &[u8], flags: u16, marks: &[u16], which: Which) -> u32
+    ensures { λ r. ⌜ r ≡ length (allFrom (lists.listing (now (page .entry)) flags (now (marks .entry)) which) 0) ⌝ }
 {
     let mut k = 0;
-    let mut m = next_of(page, flags, top, which, 0);
+    let mut m = next_of(page, flags, marks, which, 0);
     while m < 65536 {
         k += 1;
-        m = next_of(page, flags, top, which, m + 1);
+        m = next_of(page, flags, marks, which, m + 1);
     }
     k
 }
 
 // Stores them at the start of a slice that has room for all.
-fn fill(page: &[u8], flags: u16, top: u16, which: Which, out: &mut [u16])
-    requires { ⌜ length (allFrom (lists.listing (now page) flags top which) 0) ≤ length (now out) ⌝ }
-    ensures { λ r. ⌜ now (out .exit) ≡ over (allFrom (lists.listing (now (page .entry)) flags top which) 0) (now (out .entry)) ⌝ }
+fn fill(page: &[u8], flags: u16, marks: &[u16], which: Which, out: &mut [u16])
+    requires { ⌜ length (allFrom (lists.listing (now page) flags (now marks) which) 0) ≤ length (now out) ⌝ }
+    ensures { λ r. ⌜ now (out .exit) ≡ over (allFrom (lists.listing (now (page .entry)) flags (now (marks .entry)) which) 0) (now (out .entry)) ⌝ }
 {
     let mut k: usize = 0;
-    let mut m = next_of(page, flags, top, which, 0);
-    while m < 65536 {
-        out[k] = m as u16;
+    let mut set = next_of(page, flags, marks, which, 0);
+    while set < 65536 {
+        out[k] = set as u16;
         k += 1;
-        m = next_of(page, flags, top, which, m + 1);
+        set = next_of(page, flags, marks, which, set + 1);
     }
 }
 
@@ -68,12 +69,12 @@ pub fn sets(page: &[u8], flags: u16, which: Which, out: &mut [u16]) -> Listed
     if no != 0 {
         return Listed { no, count: 0 };
     }
-    let top = search::top_of(page, flags);
-    let n = count(page, flags, top, which);
+    let bits = marks::answers(page, flags);
+    let n = count(page, flags, &bits, which);
     if out.len() < n as usize {
         return Listed { no: 11, count: 0 };
     }
-    fill(page, flags, top, which, &mut *out);
+    fill(page, flags, &bits, which, &mut *out);
     Listed { no: 0, count: n }
 }
 

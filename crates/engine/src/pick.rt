@@ -1,5 +1,6 @@
 // The pick: the lowest-numbered best set.
 ghost use Rattle.engine.specs.Calls as means;
+use crate::marks;
 use crate::search;
 use page::accept;
 
@@ -17,12 +18,11 @@ pub fn pick(page: &[u8], flags: u16) -> Picked
     if no != 0 {
         return Picked { no, set: 0 };
     }
-    let m = search::next_best(page, flags, search::top_of(page, flags), 0);
+    let bits = marks::answers(page, flags);
+    let m = search::next_best(page, flags, &bits, 0);
     if m < 65536 {
-        return Picked {
-            no: 0,
-            set: m as u16,
-        };
+        let set = m as u16;
+        return Picked { no: 0, set };
     }
     Picked { no: 10, set: 0 }
 }

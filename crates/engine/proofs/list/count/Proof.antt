@@ -1,3 +1,5 @@
+-- `list::count` goes from one set to the next. What is kept: the sets counted, with those from m on, are all, and m is one of them where it is
+-- a set. Assumes nothing.
 use mathlib.Core.Path.{_≡_, ap}
 use Prim.Native.Nat.{_+_, _-_, _<_}
 use native.Mathlib.Omega.{arith}
@@ -9,67 +11,56 @@ use Rattle.engine.specs.Lists.{listing}
 use Rattle.engine.proofs.Seek.{next-ge, next-passes, all-first, all-next, all-past, all-length}
 use Rattle.engine.proofs.list.count.Statement.{statement}
 use Rattle.engine.proofs.list.count.Tie as tie
-use Rattle.engine.proofs.list.count.Reads as reads
-use Rattle.engine.proofs.list.count.Lts as lts
-use Rattle.engine.proofs.list.next_of.Reads as next-of-reads
 
 abbrev Inv-loop : tie.InvT-loop
-Inv-loop page flags top which k₀ m₀ k m =
-    (m < 65536 → T (listing page flags top which m))
-    × (length (allFrom (listing page flags top which) 0) ≡ k + length (allFrom (listing page flags top which) m))
+Inv-loop page flags marks which k₀ m₀ k m =
+    (m < 65536 → T (listing page flags marks which m))
+    × (length (allFrom (listing page flags marks which) 0) ≡ k + length (allFrom (listing page flags marks which) m))
 
 abbrev μ-loop : tie.MeasureT-loop
-μ-loop page flags top which k₀ m₀ k m = 65536 - m
+μ-loop page flags marks which k₀ m₀ k m = 65536 - m
 
--- src/list.rt:40:9
 next-of-requires : tie.Need-next-of-requires Inv-loop μ-loop
 next-of-requires c κs = tt
 
--- src/list.rt:41:5
 loop-holds : tie.Need-loop-holds Inv-loop μ-loop
 loop-holds c =
-    let a = c .before .before .args in
-    let q = listing (now (a .page)) (a .flags) (a .top) (a .which) in
+    let a = c .before .before .before .args in
+    let q = listing (now (a .page)) (a .flags) (now (a .marks)) (a .which) in
     let e = c .next-of .ensures in
     (next-passes q 0 (c .next-of .result) e, omega (arith, ap length (all-first q 0 (c .next-of .result) (omega arith) e)))
 
--- src/list.rt:42:9
 add-k : tie.Need-add-k Inv-loop μ-loop
 add-k c =
-    let a = c .before .before .before .before .args in
-    omega (arith, all-length (listing (now (a .page)) (a .flags) (a .top) (a .which)) 0, c .before .loop .inv .1)
+    let a = c .before .before .before .before .before .args in
+    omega (arith, all-length (listing (now (a .page)) (a .flags) (now (a .marks)) (a .which)) 0, c .before .loop .inv .1)
 
--- src/list.rt:43:46
 add-next-of : tie.Need-add-next-of Inv-loop μ-loop
 add-next-of c = omega arith
 
--- src/list.rt:43:9
 next-of-requires-2 : tie.Need-next-of-requires-2 Inv-loop μ-loop
 next-of-requires-2 c κs = tt
 
--- src/list.rt:41:5
 loop-less : tie.Need-loop-less Inv-loop μ-loop
 loop-less c =
-    let a = c .before .before .before .before .before .args in
-    omega (arith, c .next-of2 .ensures, next-ge (listing (now (a .page)) (a .flags) (a .top) (a .which)) (c .before .before .loop .m + 1))
+    let a = c .before .before .before .before .before .before .args in
+    omega (arith, c .next-of2 .ensures, next-ge (listing (now (a .page)) (a .flags) (now (a .marks)) (a .which)) (c .before .before .loop .m + 1))
 
--- src/list.rt:41:5
 loop-again : tie.Need-loop-again Inv-loop μ-loop
 loop-again c =
-    let a = c .before .before .before .before .before .args in
-    let q = listing (now (a .page)) (a .flags) (a .top) (a .which) in
+    let a = c .before .before .before .before .before .before .args in
+    let q = listing (now (a .page)) (a .flags) (now (a .marks)) (a .which) in
     let h = c .before .before .loop in
     let e = c .next-of2 .ensures in (
       next-passes q (h .m + 1) (c .next-of2 .result) e,
       omega (arith, h .inv .1, ap length (all-next q (h .m) (c .next-of2 .result) (omega arith) (h .inv .0 (omega arith)) e)),
     )
 
--- src/list.rt:36:1
 returns : tie.Need-returns Inv-loop μ-loop
 returns c =
-    let a = c .before .before .before .before .args in
+    let a = c .before .before .before .before .before .args in
     let h = c .before .loop in
-    omega (arith, h .inv .1, ap length (all-past (listing (now (a .page)) (a .flags) (a .top) (a .which)) (h .m) (c .loop-test .left)))
+    omega (arith, h .inv .1, ap length (all-past (listing (now (a .page)) (a .flags) (now (a .marks)) (a .which)) (h .m) (c .loop-test .left)))
 
 pub count-spec : {M : Type 1} → statement M
 count-spec =

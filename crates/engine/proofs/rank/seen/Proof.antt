@@ -1,5 +1,4 @@
 -- `rank::seen` leaves a row with one degree in both sets, and notes both degrees of any other. Assumes nothing.
-use mathlib.Core.Path.{_∙_}
 use borrow.Author.Needs.{needs}
 use borrow.Author.Tests.{eq-eqb, ne-eqb}
 use Rattle.engine.specs.Rank.{seen}

@@ -1,65 +1,54 @@
+-- `search::champion` climbs from a marked set, always upward. What is kept: c is marked, and k is the least higher set that is preferred to c.
+-- Assumes nothing.
 use mathlib.Core.Path.{_≡_}
 use Prim.Native.Nat.{_+_, _-_, _<_}
 use native.Mathlib.Omega.{arith}
 use lib.Dec.{T}
-use Rattle.page.specs.Program.{program}
 use Rattle.engine.specs.Seek.{nextFrom}
-use Rattle.engine.specs.Search.{tried, sought}
+use Rattle.engine.specs.Marks.{marked}
+use Rattle.engine.specs.Search.{sought}
 use Rattle.engine.specs.declared.search.Wanted.the-variants.{Above}
 use Rattle.engine.proofs.Champion.{found-ge, found-passes}
 use Rattle.engine.proofs.search.champion.Statement.{statement}
 use Rattle.engine.proofs.search.champion.Tie as tie
-use Rattle.engine.proofs.search.champion.Reads as reads
-use Rattle.engine.proofs.search.champion.Lts as lts
-use Rattle.engine.proofs.search.next.Reads as next-reads
 
 abbrev Inv-loop : tie.InvT-loop
-Inv-loop page flags top n c₀ k₀ c k = (c < 65536) × T (tried (program page flags) top c) × (k ≡ nextFrom (sought page flags top (Above c)) (c + 1))
+Inv-loop page flags marks n c₀ k₀ c k = (c < 65536) × T (marked marks c) × (k ≡ nextFrom (sought page flags marks (Above c)) (c + 1))
 
 abbrev μ-loop : tie.MeasureT-loop
-μ-loop page flags top n c₀ k₀ c k = 65536 - c
+μ-loop page flags marks n c₀ k₀ c k = 65536 - c
 
--- src/search.rt:116:58
 cast-next : tie.Need-cast-next Inv-loop μ-loop
 cast-next c = omega arith
 
--- src/search.rt:116:58
 add-next : tie.Need-add-next Inv-loop μ-loop
 add-next c = omega arith
 
--- src/search.rt:116:9
 next-requires : tie.Need-next-requires Inv-loop μ-loop
 next-requires c κs = tt
 
--- src/search.rt:117:5
 loop-holds : tie.Need-loop-holds Inv-loop μ-loop
-loop-holds c = let s = c .before .before in (s .fits .n .fits, s .pre, c .next .ensures)
+loop-holds c = let s = c .before .before .before in (s .fits .n .fits, s .pre, c .next .ensures)
 
--- src/search.rt:118:13
 cast-c : tie.Need-cast-c Inv-loop μ-loop
 cast-c c = omega arith
 
--- src/search.rt:119:54
 add-next-2 : tie.Need-add-next-2 Inv-loop μ-loop
 add-next-2 c = omega arith
 
--- src/search.rt:119:9
 next-requires-2 : tie.Need-next-requires-2 Inv-loop μ-loop
 next-requires-2 c κs = tt
 
--- src/search.rt:117:5
 loop-less : tie.Need-loop-less Inv-loop μ-loop
 loop-less c =
     let h = c .before .before .loop in
     omega (arith, found-ge _ _ (Above (h .c)) (h .c + 1) (h .k) (h .inv .2))
 
--- src/search.rt:117:5
 loop-again : tie.Need-loop-again Inv-loop μ-loop
 loop-again c =
     let h = c .before .before .loop in
     (omega arith, found-passes _ _ (Above (h .c)) (h .c + 1) (h .k) (h .inv .2) (omega arith), c .next2 .ensures)
 
--- src/search.rt:111:1
 returns : tie.Need-returns Inv-loop μ-loop
 returns c = c .before .loop .inv .1
 

@@ -1,44 +1,34 @@
+-- `search::is_ranked` asks the one relation, with the set on the side that is wanted. Assumes nothing.
 use mathlib.Core.Path.{ap}
 use mathlib.Core.Bool.{not}
 use Rattle.engine.specs.Search.{ranked}
 use borrow.Author.Needs.{needs}
 use Rattle.engine.proofs.search.is_ranked.Statement.{statement}
 use Rattle.engine.proofs.search.is_ranked.Tie as tie
-use Rattle.engine.proofs.search.is_ranked.Reads as reads
-use Rattle.engine.proofs.search.is_ranked.Lts as lts
-use Rattle.engine.proofs.rank.preferred.Reads as preferred-reads
 
--- src/search.rt:68:24
 enum-told : tie.Need-enum-told
 enum-told c = search needs
 
--- src/search.rt:69:23
 enum-known-wanted : tie.Need-enum-known-wanted
 enum-known-wanted c = search needs
 
--- src/search.rt:69:33
 preferred-requires : tie.Need-preferred-requires
 preferred-requires c κs = search needs
 
--- src/search.rt:70:26
 enum-known-wanted-2 : tie.Need-enum-known-wanted-2
 enum-known-wanted-2 c = search needs
 
--- src/search.rt:70:37
 preferred-requires-2 : tie.Need-preferred-requires-2
 preferred-requires-2 c κs = search needs
 
--- src/search.rt:64:1
 returns : tie.Need-returns
 unfolding ranked
 returns c = search needs
 
--- src/search.rt:64:1
 returns-2 : tie.Need-returns-2
 unfolding ranked
 returns-2 c = rw (c .before .before .wanted .given .1) (c .preferred .ensures)
 
--- src/search.rt:64:1
 returns-3 : tie.Need-returns-3
 unfolding ranked
 returns-3 c = rw (c .before .before .wanted2 .given .1) (ap not (c .preferred2 .ensures))

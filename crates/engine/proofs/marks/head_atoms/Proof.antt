@@ -1,3 +1,5 @@
+-- `marks::head_atoms` goes through the rows. What is kept: the row in hand stands at `place`, and the set so far, with the head atoms of the rows
+-- from it on, is the head atoms of all. Assumes nothing.
 use mathlib.Core.Path.{_≡_, refl, sym, ap, _∙_}
 use mathlib.Core.List.{List}
 use Prim.Native.Nat.{ℕ, _-_, _≤_}
@@ -7,17 +9,10 @@ use Rattle.atoms.specs.Atoms.{union}
 use Rattle.lpod.specs.Rule.{Rule, headAtoms}
 use Rattle.page.specs.Program.{rowsFrom, rowsOf, literalPlace}
 use Rattle.page.proofs.RowSteps.{at-first, at-next, rest-first, rest-step, rest-none}
-use Rattle.engine.specs.Search.{atomsOf}
+use Rattle.engine.specs.Marks.{atomsOf}
 use Rattle.engine.proofs.Heads.{heads-all, heads-step, heads-none}
-use Rattle.engine.proofs.search.head_atoms.Statement.{statement}
-use Rattle.engine.proofs.search.head_atoms.Tie as tie
-use Rattle.engine.proofs.search.head_atoms.Reads as reads
-use Rattle.engine.proofs.search.head_atoms.Lts as lts
-use Rattle.engine.proofs.search.with_head.Reads as with-head-reads
-use Rattle.page.proofs.fields.row_count.Reads as row-count-reads
-use Rattle.page.proofs.rows.first_place.Reads as first-place-reads
-use Rattle.page.proofs.rows.place_after.Reads as place-after-reads
-use Rattle.page.proofs.rows.row_from.Reads as row-from-reads
+use Rattle.engine.proofs.marks.head_atoms.Statement.{statement}
+use Rattle.engine.proofs.marks.head_atoms.Tie as tie
 
 abbrev Inv-loop : tie.InvT-loop
 Inv-loop page rows place₀ s₀ n₀ place s n =
@@ -26,15 +21,12 @@ Inv-loop page rows place₀ s₀ n₀ place s n =
 abbrev μ-loop : tie.MeasureT-loop
 μ-loop page rows place₀ s₀ n₀ place s n = rows - n
 
--- src/search.rt:43:9
 row-count-requires : tie.Need-row-count-requires Inv-loop μ-loop
 row-count-requires c κs = tt
 
--- src/search.rt:44:9
 first-place-requires : tie.Need-first-place-requires Inv-loop μ-loop
 first-place-requires c κs = tt
 
--- src/search.rt:47:5
 loop-holds : tie.Need-loop-holds Inv-loop μ-loop
 loop-holds c =
     let P = now (c .before .before .before .args .page) in (
@@ -43,27 +35,21 @@ loop-holds c =
       heads-all (rowsOf P) ∙ ap (λ (R : List Rule). union 0 (atomsOf (headAtoms R))) (rest-first P _ _ (c .first-place .ensures) (c .before .row-count .ensures)),
     )
 
--- src/search.rt:48:13
 row-from-requires : tie.Need-row-from-requires Inv-loop μ-loop
 row-from-requires c κs = tt
 
--- src/search.rt:49:9
 with-head-requires : tie.Need-with-head-requires Inv-loop μ-loop
 with-head-requires c κs = tt
 
--- src/search.rt:50:9
 place-after-requires : tie.Need-place-after-requires Inv-loop μ-loop
 place-after-requires c κs = tt
 
--- src/search.rt:51:9
 add-n : tie.Need-add-n Inv-loop μ-loop
 add-n c = omega arith
 
--- src/search.rt:47:5
 loop-less : tie.Need-loop-less Inv-loop μ-loop
 loop-less c = omega arith
 
--- src/search.rt:47:5
 loop-again : tie.Need-loop-again Inv-loop μ-loop
 loop-again c =
     let h = c .before .before .before .before .loop in
@@ -76,7 +62,6 @@ loop-again c =
           (h .inv .1) (row .ensures) _ _ (omega arith) (c .place-after .ensures)) (c .before .with-head .ensures),
     )
 
--- src/search.rt:40:1
 returns : tie.Need-returns Inv-loop μ-loop
 returns c =
     let h = c .before .loop in

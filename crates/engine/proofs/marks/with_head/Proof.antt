@@ -1,3 +1,5 @@
+-- `marks::with_head` adds one head atom after the other. What is kept: the set so far, with the atoms to come, is s with the whole head.
+-- Assumes nothing.
 use mathlib.Core.Path.{_≡_, refl, sym, ap, _∙_}
 use Prim.Native.Nat.{ℕ, _+_, _-_, _≤_, _<_}
 use native.Mathlib.Omega.{arith}
@@ -8,14 +10,10 @@ use Rattle.page.specs.Program.{literals}
 use Rattle.page.specs.Rows.{ruleOf}
 use Rattle.page.proofs.Scan.{literals-step, literals-none}
 use Rattle.page.proofs.Literals.{literals-at}
-use Rattle.engine.specs.Search.{atomsOf}
+use Rattle.engine.specs.Marks.{atomsOf}
 use Rattle.engine.proofs.Heads.{atoms-step, atoms-none}
-use Rattle.engine.proofs.search.with_head.Statement.{statement}
-use Rattle.engine.proofs.search.with_head.Tie as tie
-use Rattle.engine.proofs.search.with_head.Reads as reads
-use Rattle.engine.proofs.search.with_head.Lts as lts
-use Rattle.atoms.proofs.with_atom.Reads as with-atom-reads
-use Rattle.page.proofs.rows.head_atom.Reads as head-atom-reads
+use Rattle.engine.proofs.marks.with_head.Statement.{statement}
+use Rattle.engine.proofs.marks.with_head.Tie as tie
 
 assoc : (i k : ℕ) → i + k + 1 ≡ i + (k + 1)
 assoc i k = omega arith
@@ -26,27 +24,21 @@ Inv-loop page row s n t₀ k₀ t k = (k ≤ n) × (union s (atomsOf (literals p
 abbrev μ-loop : tie.MeasureT-loop
 μ-loop page row s n t₀ k₀ t k = n - k
 
--- src/search.rt:32:5
 loop-holds : tie.Need-loop-holds Inv-loop μ-loop
 loop-holds c = (omega arith, rw (add-zero, sub-zero))
 
--- src/search.rt:33:33
 head-atom-requires : tie.Need-head-atom-requires Inv-loop μ-loop
 head-atom-requires c κs = tt
 
--- src/search.rt:33:9
 with-atom-requires : tie.Need-with-atom-requires Inv-loop μ-loop
 with-atom-requires c κs = tt
 
--- src/search.rt:34:9
 add-k : tie.Need-add-k Inv-loop μ-loop
 add-k c = omega arith
 
--- src/search.rt:32:5
 loop-less : tie.Need-loop-less Inv-loop μ-loop
 loop-less c = omega arith
 
--- src/search.rt:32:5
 loop-again : tie.Need-loop-again Inv-loop μ-loop
 unfolding ruleOf
 loop-again c =
@@ -63,7 +55,6 @@ loop-again c =
           (c .with-atom .ensures),
     )
 
--- src/search.rt:26:1
 returns : tie.Need-returns Inv-loop μ-loop
 unfolding ruleOf
 returns c =

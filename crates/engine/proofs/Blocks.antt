@@ -1,0 +1,96 @@
+-- A bit for each set: a block of 16 bits made one bit at a time, all blocks one after the other, and the bit of a set read back. A set s stands
+-- in block s / 16 at s % 16. Assumes nothing.
+use mathlib.Core.Path.{_≡_, refl, sym, ap, _∙_, subst}
+use mathlib.Core.Bool.{Bool, true, false, _||_}
+use mathlib.Core.Logic.{_⊎_, inl, inr, ⊎-elim, _↔_}
+use mathlib.Core.List.{List, [], _∷_, map, List·Memᴰ, List·Memᴰ·head, List·Memᴰ·tail, List·Memᴰ·cases-cons}
+use Prim.Native.Nat.{ℕ, zero, suc, _+_, _*_, _-_, _/_, _%_, _≤_, _<_}
+use native.Mathlib.Nat.{add-zero, mod-lt, zero-lt-suc}
+use native.Mathlib.Decide.{ℕ-discrete}
+use native.Mathlib.Omega.{arith}
+use lib.Bits.{or-zero-l}
+use lib.Dec.{T, ltb, eqb, lt→ltb}
+use lib.ListN.{length, getD, set}
+use lib.Seq.{ext-getD, getD-set-same, getD-set-other}
+use Rattle.atoms.specs.Atoms.{has, insert, union, withAtom}
+use Rattle.atoms.proofs.Truth.{yes-true, same-yes}
+use Rattle.atoms.proofs.Bits.{has-zero, in-insert, at-insert, of-insert}
+use Rattle.lpod.specs.Lists.{keep, numbers, below}
+use Rattle.lpod.specs.Rule.{setOf}
+use Rattle.lpod.proofs.Lists.{keep-in, in-keep, in-numbers, numbers-in, numbers-next, numbers-done}
+use Rattle.engine.specs.Marks.{atomsOf, marked, blockOf, marksOf}
+use Rattle.engine.proofs.Heads.{atoms-step, atoms-none, atoms-set}
+
+-- ---- one block, bit by bit
+module _ (f : ℕ → Bool) where
+  -- the atoms from j on that pass
+  abbrev pub bitsFrom : ℕ → ℕ
+  bitsFrom j = atomsOf (keep f (numbers j (16 - j)))
+
+  module _ (w j : ℕ) (l : j < 16) (b : Bool) (e : b ≡ f j) where
+    pub bit-on : b ≡ true → (w′ : ℕ) → w′ ≡ withAtom w j → union w (bitsFrom j) ≡ union w′ (bitsFrom (j + 1))
+    unfolding keep
+    bit-on t w′ ew =
+        atoms-step w w′ j (keep f (numbers j (16 - j))) (keep f (numbers (j + 1) (16 - (j + 1)))) (ap (keep f) (numbers-next j 16 l) ∙ rw (← e, t)) ew
+
+    pub bit-off : b ≡ false → (w′ : ℕ) → w′ ≡ w → union w (bitsFrom j) ≡ union w′ (bitsFrom (j + 1))
+    unfolding keep
+    bit-off t w′ ew = rw (ew, numbers-next j 16 l, ← e, t)
+
+  pub bits-first : atomsOf (keep f (below 16)) ≡ union 0 (bitsFrom 0)
+  bits-first = sym (or-zero-l (bitsFrom 0))
+
+  pub bits-done : (w j : ℕ) → 16 ≤ j → union w (bitsFrom j) ≡ w
+  unfolding keep
+  bits-done w j h = atoms-none w (keep f (numbers j (16 - j))) (ap (keep f) (numbers-done j 16 h))
+
+-- ---- the atoms of a list as a set, read back
+in-set : (l : List ℕ) (a : ℕ) → T (has (setOf l) a) → List·Memᴰ a l
+unfolding setOf
+in-set [] a t = absurd (subst T (has-zero a) t)
+in-set (b ∷ l) a t = ⊎-elim (λ u. List·Memᴰ·tail (in-set l a u)) (λ e. List·Memᴰ·head e) (of-insert (setOf l) b a t)
+
+set-in : (l : List ℕ) (a : ℕ) → List·Memᴰ a l → T (has (setOf l) a)
+unfolding setOf
+set-in [] a m = elim m [ ]
+set-in (b ∷ l) a m =
+    ⊎-elim (λ e. subst (λ (x : ℕ). T (has (insert (setOf l) b) x)) (sym e) (at-insert (setOf l) b)) (λ n. in-insert (setOf l) b a (set-in l a n)) (List·Memᴰ·cases-cons m)
+
+bit-at : (f : ℕ → Bool) (j : ℕ) → j < 16 → has (atomsOf (keep f (below 16))) j ≡ f j
+bit-at f j l =
+    ap (λ (s : ℕ). has s j) (atoms-set (keep f (below 16)) (λ a m. omega (arith, in-numbers 0 16 a (in-keep f (below 16) a m .0) .1)))
+    ∙ same-yes (has (setOf (keep f (below 16))) j) (f j) (λ t. in-keep f (below 16) j (in-set (keep f (below 16)) j t) .1)
+    (λ t. set-in (keep f (below 16)) j (keep-in f (below 16) j (numbers-in 0 16 j (omega arith) (omega arith)) t))
+
+-- ---- all blocks
+module _ (g : ℕ → ℕ) where
+  at-map : (i n k : ℕ) → k < n → getD (map g (numbers i n)) k 0 ≡ g (i + k)
+  unfolding numbers
+  at-map i zero k h = absurd (omega arith)
+  at-map i (suc n) zero h = rw (add-zero i)
+  at-map i (suc n) (suc k) h = at-map (suc i) n k (omega arith) ∙ ap g (omega arith)
+
+  map-length : (i n : ℕ) → length (map g (numbers i n)) ≡ n
+  unfolding numbers
+  map-length i zero = refl
+  map-length i (suc n) = ap suc (map-length (suc i) n)
+
+  pub all-blocks : (marks : List ℕ) → length marks ≡ 4096 → ((i : ℕ) → i < 4096 → getD marks i 0 ≡ g i) → marks ≡ map g (below 4096)
+  all-blocks marks e f =
+      ext-getD 0 marks (map g (below 4096)) (e ∙ sym (map-length 0 4096)) (λ i l. let h : i < 4096 = omega arith in f i h ∙ sym (at-map 0 4096 i h ∙ ap g (omega arith)))
+
+  -- one block more is stored
+  pub block-more : (marks : List ℕ) (b w : ℕ) → b < length marks → ((i : ℕ) → i < b → getD marks i 0 ≡ g i) → w ≡ g b
+      → (i : ℕ) → i < b + 1 → getD (set marks b w) i 0 ≡ g i
+  block-more marks b w l f e i h = go (ℕ-discrete i b)
+    where
+      go : Dec (i ≡ b) → getD (set marks b w) i 0 ≡ g i
+      go (yes z) = ap (λ (k : ℕ). getD (set marks b w) k 0) z ∙ getD-set-same marks b w 0 l ∙ e ∙ ap g (sym z)
+      go (no z) = getD-set-other marks b i w 0 z ∙ f i (omega arith)
+
+pub marks-say : (q : ℕ → Bool) (s : ℕ) → s < 65536 → marked (marksOf q) s ≡ q s
+unfolding marked marksOf blockOf
+marks-say q s l =
+    let b : s / 16 < 4096 = omega arith in
+    let r : s % 16 < 16 = omega arith in
+    ap (λ (w : ℕ). has w (s % 16)) (at-map (blockOf q) 0 4096 (s / 16) b) ∙ bit-at (λ j. q (16 * (0 + s / 16) + j)) (s % 16) r ∙ ap q (omega arith)
