@@ -4,14 +4,16 @@ use mathlib.Core.Path.{_≡_, refl, sym, ap, _∙_, subst}
 use mathlib.Core.Bool.{Bool, _&&_}
 use mathlib.Core.Logic.{⊎-elim}
 use mathlib.Core.List.{List, [], _∷_, List·Memᴰ, List·Memᴰ·head, List·Memᴰ·tail, List·Memᴰ·append-cases}
-use Prim.Native.Nat.{ℕ, _^_, _≤_, _<_}
+use Prim.Native.Nat.{ℕ, _+_, _*_, _/_, _^_, _≤_, _<_}
 use native.Mathlib.Nat.{lt-of-le-of-lt}
+use native.Mathlib.Decide.{decLt}
 use native.Mathlib.Omega.{arith}
 use lib.Pow.{pow-pos, pow-mono}
 use lib.Bits.{or-lt}
 use lib.Dec.{T}
+use lib.ListN.{length, take, length-take}
 use Rattle.atoms.specs.Atoms.{inside, union}
-use Rattle.atoms.proofs.Truth.{and-r, both, same-yes}
+use Rattle.atoms.proofs.Truth.{and-r, both, same-yes, no-false}
 use Rattle.atoms.proofs.Bits.{inside-test, inside-le}
 use Rattle.atoms.proofs.Count.{insert-lt}
 use Rattle.lpod.specs.Lists.{keep, below}
@@ -27,14 +29,14 @@ use Rattle.page.specs.Refusals.{flagNo}
 use Rattle.page.proofs.Accepted.{ranges}
 use Rattle.page.proofs.AcceptedAtoms.{AtomsBelow, rows-below, flag-page, flags-below}
 use Rattle.engine.specs.Seek.{allFrom}
-use Rattle.engine.specs.Marks.{topOf, tried, marked, answerMarks}
+use Rattle.engine.specs.Marks.{topOf, tried, marked, marksOf, wordsTo, answerMarks}
 use Rattle.engine.specs.Search.{bestAmong, soughtBest}
 use Rattle.engine.specs.Lists.{listing}
 use Rattle.engine.specs.Calls.{setsOf}
 use Rattle.engine.specs.declared.list.Which.{Which}
 use Rattle.engine.specs.declared.list.Which.the-variants.{All, Best}
 use Rattle.engine.proofs.Heads.{atoms-set}
-use Rattle.engine.proofs.Blocks.{marks-say}
+use Rattle.engine.proofs.Blocks.{marks-say, marks-past, marks-length}
 use Rattle.engine.proofs.Kept.{keep-same, keep-both, keep-short}
 
 -- ---- a list of atoms as a set
@@ -88,13 +90,25 @@ module _ (page : List ℕ) (flags : ℕ) (w : flags < 2 ^ 16) (h : flagNo page f
   tried-answer s t =
       and-r (inside s (topOf page flags)) (answer (program page flags) s) (and-r (inside flags s) (inside s (topOf page flags) && answer (program page flags) s) t)
 
+  -- a set is marked exactly where it is an answer set
+  marked-answer : (s : ℕ) → marked (answerMarks page flags) s ≡ answer (program page flags) s
+  unfolding answerMarks wordsTo program
+  marked-answer s = go (decLt s (16 * (topOf page flags / 16 + 1)))
+    where
+      q : ℕ → Bool
+      q = tried (program page flags) (topOf page flags)
+
+      go : Dec (s < 16 * (topOf page flags / 16 + 1)) → marked (marksOf q (topOf page flags / 16 + 1)) s ≡ answer (program page flags) s
+      go (yes l) = marks-say q (topOf page flags / 16 + 1) s l ∙ same-yes (q s) (answer (program page flags) s) (tried-answer s) (answer-tried s)
+      go (no n) =
+          marks-past (marksOf q (topOf page flags / 16 + 1)) s (omega (arith, marks-length q (topOf page flags / 16 + 1)))
+          ∙ sym (no-false (answer (program page flags) s)
+          (λ t. let k = inside-le s (topOf page flags) (rw top-is (inside-heads (program page flags) s t)) in omega arith))
+
   all-answers : allFrom (marked (answerMarks page flags)) 0 ≡ answerSets (program page flags)
-  unfolding allFrom answerSets answerMarks program
+  unfolding allFrom answerSets program
   all-answers =
-      keep-same (marked (answerMarks page flags)) (answer (program page flags)) (below 65536)
-      (λ s m.
-      marks-say (tried (program page flags) (topOf page flags)) s (omega (arith, in-numbers 0 65536 s m .1))
-      ∙ same-yes (tried (program page flags) (topOf page flags) s) (answer (program page flags) s) (tried-answer s) (answer-tried s))
+      keep-same (marked (answerMarks page flags)) (answer (program page flags)) (below 65536) (λ s m. marked-answer s)
       ∙ keep-short (answer (program page flags)) (2 ^ atomCount page) 65536 (pow-mono most) answer-below
 
   all-best : allFrom (soughtBest page flags (answerMarks page flags)) 0 ≡ bestSets (program page flags)
@@ -112,3 +126,13 @@ pub all-sets : (page : List ℕ) (flags k : ℕ) (marks : List ℕ) (which : Whi
     → marks ≡ answerMarks page flags → allFrom (listing page flags marks which) 0 ≡ setsOf which (program page flags)
 all-sets page flags k marks which w e z em =
     ap (λ (l : List ℕ). allFrom (listing page flags l which) 0) em ∙ sets-found page flags w (sym e ∙ z) which
+
+-- the first words of the marks, as code lends them
+pub marks-made : (page : List ℕ) (flags top words : ℕ) (bits : List ℕ) → top ≡ topOf page flags → words ≡ wordsTo top
+    → take (wordsTo top) bits ≡ marksOf (tried (program page flags) top) (wordsTo top) → take words bits ≡ answerMarks page flags
+unfolding answerMarks
+marks-made page flags top words bits et ew e = ap (λ (n : ℕ). take n bits) ew ∙ e ∙ ap (λ (t : ℕ). marksOf (tried (program page flags) t) (wordsTo t)) et
+
+-- they are so many
+pub words-many : (words : ℕ) (bits : List ℕ) → words ≤ length bits → words ≡ length (take words bits)
+words-many words bits h = omega (arith, length-take words bits)

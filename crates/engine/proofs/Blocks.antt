@@ -10,8 +10,8 @@ use native.Mathlib.Decide.{ℕ-discrete}
 use native.Mathlib.Omega.{arith}
 use lib.Bits.{or-zero-l}
 use lib.Dec.{T, ltb, eqb, lt→ltb}
-use lib.ListN.{length, getD, set}
-use lib.Seq.{ext-getD, getD-set-same, getD-set-other}
+use lib.ListN.{length, getD, set, take, length-take, List·getD-eq-default}
+use lib.Seq.{ext-getD, getD-take, getD-set-same, getD-set-other}
 use Rattle.atoms.specs.Atoms.{has, insert, union, withAtom}
 use Rattle.atoms.proofs.Truth.{yes-true, same-yes}
 use Rattle.atoms.proofs.Bits.{has-zero, in-insert, at-insert, of-insert}
@@ -75,9 +75,13 @@ module _ (g : ℕ → ℕ) where
   map-length i zero = refl
   map-length i (suc n) = ap suc (map-length (suc i) n)
 
-  pub all-blocks : (marks : List ℕ) → length marks ≡ 4096 → ((i : ℕ) → i < 4096 → getD marks i 0 ≡ g i) → marks ≡ map g (below 4096)
-  all-blocks marks e f =
-      ext-getD 0 marks (map g (below 4096)) (e ∙ sym (map-length 0 4096)) (λ i l. let h : i < 4096 = omega arith in f i h ∙ sym (at-map 0 4096 i h ∙ ap g (omega arith)))
+  pub all-blocks : (marks : List ℕ) (n : ℕ) → n ≤ length marks → ((i : ℕ) → i < n → getD marks i 0 ≡ g i) → take n marks ≡ map g (below n)
+  all-blocks marks n h f =
+      ext-getD 0 (take n marks) (map g (below n)) (length-first ∙ sym (map-length 0 n))
+      (λ i l. let k : i < n = omega (arith, length-first) in getD-take n marks i 0 k ∙ f i k ∙ sym (at-map 0 n i k ∙ ap g (omega arith)))
+    where
+      length-first : length (take n marks) ≡ n
+      length-first = length-take n marks ∙ omega arith
 
   -- one block more is stored
   pub block-more : (marks : List ℕ) (b w : ℕ) → b < length marks → ((i : ℕ) → i < b → getD marks i 0 ≡ g i) → w ≡ g b
@@ -88,9 +92,18 @@ module _ (g : ℕ → ℕ) where
       go (yes z) = ap (λ (k : ℕ). getD (set marks b w) k 0) z ∙ getD-set-same marks b w 0 l ∙ e ∙ ap g (sym z)
       go (no z) = getD-set-other marks b i w 0 z ∙ f i (omega arith)
 
-pub marks-say : (q : ℕ → Bool) (s : ℕ) → s < 65536 → marked (marksOf q) s ≡ q s
+pub marks-say : (q : ℕ → Bool) (n s : ℕ) → s < 16 * n → marked (marksOf q n) s ≡ q s
 unfolding marked marksOf blockOf
-marks-say q s l =
-    let b : s / 16 < 4096 = omega arith in
+marks-say q n s l =
+    let b : s / 16 < n = omega arith in
     let r : s % 16 < 16 = omega arith in
-    ap (λ (w : ℕ). has w (s % 16)) (at-map (blockOf q) 0 4096 (s / 16) b) ∙ bit-at (λ j. q (16 * (0 + s / 16) + j)) (s % 16) r ∙ ap q (omega arith)
+    ap (λ (w : ℕ). has w (s % 16)) (at-map (blockOf q) 0 n (s / 16) b) ∙ bit-at (λ j. q (16 * (0 + s / 16) + j)) (s % 16) r ∙ ap q (omega arith)
+
+-- past the words that there are no set has a bit
+pub marks-past : (marks : List ℕ) (s : ℕ) → 16 * length marks ≤ s → marked marks s ≡ false
+unfolding marked
+marks-past marks s h = ap (λ (w : ℕ). has w (s % 16)) (List·getD-eq-default marks 0 (omega arith)) ∙ has-zero (s % 16)
+
+pub marks-length : (q : ℕ → Bool) (n : ℕ) → length (marksOf q n) ≡ n
+unfolding marksOf
+marks-length q n = map-length (blockOf q) 0 n

@@ -31,14 +31,10 @@ use Rattle.routes.specs.declared.split.Split.{Split}
 use Rattle.engine.specs.Calls.{SetsSay, ListSays, BestSays, PickSays}
 use Rattle.engine.specs.Degrees.{DegreesSays}
 use Rattle.engine.specs.Compare.{CompareSays}
-use Rattle.engine.specs.Marks.{marked, answerMarks}
-use Rattle.engine.specs.Search.{sought, soughtBest}
-use Rattle.engine.specs.Seek.{nextFrom}
 use Rattle.engine.specs.declared.list.Listed.{Listed}
 use Rattle.engine.specs.declared.pick.Picked.{Picked}
 use Rattle.engine.specs.declared.degrees.Graded.{Graded}
 use Rattle.engine.specs.declared.compare.Compared.{Compared}
-use Rattle.engine.specs.declared.search.Wanted.{Wanted}
 
 -- two values that are both the defined one are one
 pub one-answer : {A : Type 0} {x y z : A} → x ≡ z → y ≡ z → x ≡ y
@@ -194,20 +190,6 @@ is-answer page flags set x y = one-answer
 -- routes::here_there
 pub is-here-there : (page : List ℕ) (flags set : ℕ) (x y : Bool) → x ≡ hereThere (program page flags) set → y ≡ hereThere (program page flags) set → x ≡ y
 is-here-there page flags set x y = one-answer
-
--- engine::marks
-pub answers : (page : List ℕ) (flags : ℕ) (x y : List ℕ) → x ≡ answerMarks page flags → y ≡ answerMarks page flags → x ≡ y
-answers page flags x y = one-answer
-
-pub is-marked : (marks : List ℕ) (set : ℕ) (x y : Bool) → x ≡ marked marks set → y ≡ marked marks set → x ≡ y
-is-marked marks set x y = one-answer
-
--- engine::search
-pub next : (page : List ℕ) (flags : ℕ) (marks : List ℕ) (wanted : Wanted) (from x y : ℕ) → x ≡ nextFrom (sought page flags marks wanted) from → y ≡ nextFrom (sought page flags marks wanted) from → x ≡ y
-next page flags marks wanted from x y = one-answer
-
-pub next-best : (page : List ℕ) (flags : ℕ) (marks : List ℕ) (from x y : ℕ) → x ≡ nextFrom (soughtBest page flags marks) from → y ≡ nextFrom (soughtBest page flags marks) from → x ≡ y
-next-best page flags marks from x y = one-answer
 
 -- engine::rank
 pub preferred-set : (page : List ℕ) (flags m n : ℕ) (x y : Bool) → x ≡ preferred (program page flags) m n → y ≡ preferred (program page flags) m n → x ≡ y

@@ -103,7 +103,7 @@ module _ (q : ℕ → Bool) where
   pub next-here : (m : ℕ) (b : Bool) → m < 65536 → b ≡ q m → b ≡ true → nextFrom q m ≡ m
   next-here m b h e t = next-at m h (true-yes (sym e ∙ t))
 
-  next-none : (i : ℕ) → i ≤ 65536 → NoneBetween i 65536 → nextFrom q i ≡ 65536
+  pub next-none : (i : ℕ) → i ≤ 65536 → NoneBetween i 65536 → nextFrom q i ≡ 65536
   next-none i l f = go (decLe 65536 (nextFrom q i))
     where
       go : Dec (65536 ≤ nextFrom q i) → nextFrom q i ≡ 65536

@@ -31,9 +31,14 @@ module _ (q : ℕ → Bool) where
   unfoldable pub blockOf : ℕ → ℕ
   blockOf b = atomsOf (keep (λ j. q (16 * b + j)) (below 16))
 
-  unfoldable pub marksOf : List ℕ
-  marksOf = map blockOf (below 4096)
+  -- the first n words
+  unfoldable pub marksOf : ℕ → List ℕ
+  marksOf n = map blockOf (below n)
+
+-- how many words there are up to a set; no set above it has a bit
+unfoldable pub wordsTo : ℕ → ℕ
+wordsTo top = top / 16 + 1
 
 -- the answer sets of a page and a flag word
 unfoldable pub answerMarks : List ℕ → ℕ → List ℕ
-answerMarks page flags = marksOf (tried (program page flags) (topOf page flags))
+answerMarks page flags = marksOf (tried (program page flags) (topOf page flags)) (wordsTo (topOf page flags))

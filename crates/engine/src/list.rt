@@ -69,12 +69,14 @@ pub fn sets(page: &[u8], flags: u16, which: Which, out: &mut [u16]) -> Listed
     if no != 0 {
         return Listed { no, count: 0 };
     }
-    let bits = marks::answers(page, flags);
-    let n = count(page, flags, &bits, which);
+    let top = marks::top_of(page, flags);
+    let words = marks::words_to(top);
+    let bits = marks::answers(page, flags, top);
+    let n = count(page, flags, &bits[..words], which);
     if out.len() < n as usize {
         return Listed { no: 11, count: 0 };
     }
-    fill(page, flags, &bits, which, &mut *out);
+    fill(page, flags, &bits[..words], which, &mut *out);
     Listed { no: 0, count: n }
 }
 

@@ -3,6 +3,7 @@
 // will do.
 ghost use mathlib.Core.Path.{_≡_};
 ghost use Prim.Native.Nat.{_<_};
+ghost use lib.ListN.{length, take};
 ghost use Rattle.atoms.specs.Atoms.{union};
 ghost use Rattle.lpod.specs.Rule.{headAtoms};
 ghost use Rattle.page.specs.Program.{program, rowsOf};
@@ -44,7 +45,7 @@ fn head_atoms(page: &[u8]) -> u16
 }
 
 // The flags with all head atoms: every answer set of an accepted page is a part of this.
-fn top_of(page: &[u8], flags: u16) -> u16
+pub fn top_of(page: &[u8], flags: u16) -> u16
     ensures { λ r. ⌜ r ≡ means.topOf (now (page .entry)) flags ⌝ }
 {
     atoms::union(flags, head_atoms(page))
@@ -79,14 +80,21 @@ fn block(page: &[u8], flags: u16, top: u16, b: u16) -> u16
     w
 }
 
-// The bits of all sets.
-pub fn answers(page: &[u8], flags: u16) -> [u16; 4096]
-    ensures { λ r. ⌜ r ≡ means.answerMarks (now (page .entry)) flags ⌝ }
+// How many words have the bits of all sets up to top.
+pub fn words_to(top: u16) -> usize
+    ensures { λ r. ⌜ r ≡ means.wordsTo top ⌝ }
 {
-    let top = top_of(page, flags);
+    (top / 16) as usize + 1
+}
+
+// The bits of all sets up to top, in the first words. No set above top is tried, and the words after these stay 0.
+pub fn answers(page: &[u8], flags: u16, top: u16) -> [u16; 4096]
+    ensures { λ r. ⌜ (length r ≡ 4096) × (take (means.wordsTo top) r ≡ means.marksOf (means.tried (program (now (page .entry)) flags) top) (means.wordsTo top)) ⌝ }
+{
+    let last = top / 16;
     let mut marks = [0u16; 4096];
     let mut b: u16 = 0;
-    while b < 4096 {
+    while b <= last {
         marks[b as usize] = block(page, flags, top, b);
         b += 1;
     }

@@ -18,8 +18,10 @@ pub fn pick(page: &[u8], flags: u16) -> Picked
     if no != 0 {
         return Picked { no, set: 0 };
     }
-    let bits = marks::answers(page, flags);
-    let m = search::next_best(page, flags, &bits, 0);
+    let top = marks::top_of(page, flags);
+    let words = marks::words_to(top);
+    let bits = marks::answers(page, flags, top);
+    let m = search::next_best(page, flags, &bits[..words], 0);
     if m < 65536 {
         let set = m as u16;
         return Picked { no: 0, set };

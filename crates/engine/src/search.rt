@@ -1,6 +1,8 @@
 // Searches through the marked sets, one number after the other. Each answers the least set from a place on that is wanted, and 65,536, which
 // is no set, where there is none. Any page, flag word, marks and place will do.
 ghost use mathlib.Core.Path.{_≡_};
+ghost use mathlib.Core.Bool.{false};
+ghost use Prim.Native.Nat.{ℕ, _≤_, _<_};
 ghost use lib.Dec.{T};
 ghost use Rattle.lpod.specs.Preferred.{preferred};
 ghost use Rattle.page.specs.Program.{program};
@@ -38,16 +40,31 @@ fn is_wanted(page: &[u8], flags: u16, marks: &[u16], wanted: Wanted, set: u16) -
     false
 }
 
+// How many sets the marks have a bit for.
+fn sets_in(marks: &[u16]) -> u32
+    ensures { λ r. ⌜ (r ≤ 65536) × ((s : ℕ) → r ≤ s → s < 65536 → marked (now (marks .entry)) s ≡ false) ⌝ }
+{
+    let n = marks.len();
+    if n < 4096 {
+        return 16 * (n as u32);
+    }
+    65536
+}
+
 // The least wanted set from `from` on.
 pub fn next(page: &[u8], flags: u16, marks: &[u16], wanted: Wanted, from: u32) -> u32
     ensures { λ r. ⌜ r ≡ nextFrom (means.sought (now (page .entry)) flags (now (marks .entry)) wanted) from ⌝ }
 {
+    let end = sets_in(marks);
     let mut i = from;
-    while i < 65536 {
+    while i < end {
         if is_wanted(page, flags, marks, wanted, i as u16) {
             return i;
         }
         i += 1;
+    }
+    if i < 65536 {
+        return 65536;
     }
     i
 }

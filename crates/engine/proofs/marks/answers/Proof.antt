@@ -1,26 +1,23 @@
 -- `marks::answers` stores one block after the other. What is kept: every word stored is its block. Assumes nothing.
-use mathlib.Core.Path.{_≡_, refl, sym, _∙_}
-use Prim.Native.Nat.{ℕ, _-_, _≤_, _<_}
+use mathlib.Core.Path.{_≡_, refl, _∙_}
+use Prim.Native.Nat.{ℕ, _+_, _-_, _≤_, _<_}
 use native.Mathlib.Omega.{arith}
 use lib.ListN.{length, getD, length-set}
 use Rattle.page.specs.Program.{program}
-use Rattle.engine.specs.Marks.{tried, blockOf, marksOf, answerMarks}
+use Rattle.engine.specs.Marks.{tried, blockOf, marksOf, wordsTo}
 use Rattle.engine.proofs.Blocks.{block-more, all-blocks}
 use Rattle.engine.proofs.marks.answers.Statement.{statement}
 use Rattle.engine.proofs.marks.answers.Tie as tie
 
 abbrev Inv-loop : tie.InvT-loop
-Inv-loop page flags top marks₀ b₀ marks b =
-    (b ≤ 4096) × (length marks ≡ 4096) × ((i : ℕ) → i < b → getD marks i 0 ≡ blockOf (tried (program page flags) top) i)
+Inv-loop page flags top last marks₀ b₀ marks b =
+    (b ≤ last + 1) × (length marks ≡ 4096) × ((i : ℕ) → i < b → getD marks i 0 ≡ blockOf (tried (program page flags) top) i)
 
 abbrev μ-loop : tie.MeasureT-loop
-μ-loop page flags top marks₀ b₀ marks b = 4096 - b
-
-top-of-requires : tie.Need-top-of-requires Inv-loop μ-loop
-top-of-requires c κs = tt
+μ-loop page flags top last marks₀ b₀ marks b = last + 1 - b
 
 loop-holds : tie.Need-loop-holds Inv-loop μ-loop
-loop-holds c = (omega arith, refl, λ i l. absurd (omega arith))
+loop-holds c = (omega arith, refl, λ i l. absurd (omega (arith, l)))
 
 block-requires : tie.Need-block-requires Inv-loop μ-loop
 block-requires c κs = omega arith
@@ -50,11 +47,10 @@ loop-again c =
     )
 
 returns : tie.Need-returns Inv-loop μ-loop
-unfolding answerMarks marksOf
+unfolding wordsTo marksOf
 returns c =
     let h = c .before .loop in
-    let t = c .before .before .top-of in
-    rw (← t .ensures) (all-blocks _ (h .marks) (h .inv .1) (λ i l. h .inv .2 i (omega arith)))
+    (h .inv .1, all-blocks _ (h .marks) _ (omega (arith, h .inv .1)) (λ i l. h .inv .2 i (omega (arith, l))))
 
 pub answers-spec : {M : Type 1} → statement M
 answers-spec =
@@ -62,7 +58,6 @@ answers-spec =
     (tie.spec
     Inv-loop
     μ-loop
-    top-of-requires
     loop-holds
     block-requires
     cast-marks
