@@ -16,6 +16,7 @@ typedef struct {
     unsigned atoms, rows, pair_count;
     uint16_t flags;
     uint16_t reach; /* flags and head atoms: nothing else can be in an answer set */
+    uint16_t marks[4096]; /* a bit for each set: it is an answer set. Only what `mark` wrote is read */
 } Program;
 
 /* One row, as the page's bytes have it. */
@@ -306,21 +307,35 @@ static int in_reach(const Program *p, uint32_t set) {
     return (set & p->flags) == p->flags && (set & ~(uint32_t)p->reach) == 0;
 }
 
+/* Marks the answer sets, a bit for each set up to `reach`: every set is tested once, and the searches go by the bits. */
+static void mark(Program *p) {
+    for (uint32_t block = 0; block <= p->reach / 16u; block++) {
+        uint16_t bits = 0;
+        for (uint32_t j = 0; j < 16; j++)
+            if (in_reach(p, 16 * block + j) && is_answer(p, (uint16_t)(16 * block + j))) bits = (uint16_t)(bits | 1u << j);
+        p->marks[block] = bits;
+    }
+}
+
+static int marked(const Program *p, uint32_t set) {
+    return p->marks[set / 16] >> set % 16 & 1;
+}
+
 /* The least answer set from `from` on. */
 static uint32_t next_set(const Program *p, uint32_t from) {
-    for (uint32_t s = from; s < 1u << p->atoms; s++)
-        if (in_reach(p, s) && is_answer(p, (uint16_t)s)) return s;
+    for (uint32_t s = from; s <= p->reach; s++)
+        if (marked(p, s)) return s;
     return NONE;
 }
 
-/* The least answer set from `from` on that is preferred to m. Degrees cost less than the test, so they come first. */
+/* The least answer set from `from` on that is preferred to m. */
 static uint32_t next_better(const Program *p, uint32_t m, uint32_t from) {
     uint8_t old[32], degrees[32];
     degrees_of(p, (uint16_t)m, old);
-    for (uint32_t s = from; s < 1u << p->atoms; s++) {
-        if (!in_reach(p, s)) continue;
+    for (uint32_t s = from; s <= p->reach; s++) {
+        if (!marked(p, s)) continue;
         degrees_of(p, (uint16_t)s, degrees);
-        if (preferred(p, degrees, old) && is_answer(p, (uint16_t)s)) return s;
+        if (preferred(p, degrees, old)) return s;
     }
     return NONE;
 }
@@ -330,10 +345,10 @@ static uint32_t next_unbeaten(const Program *p, uint32_t from, uint32_t champion
     uint8_t top[32], degrees[32];
     if (champion == NONE) return next_set(p, from);
     degrees_of(p, (uint16_t)champion, top);
-    for (uint32_t s = from; s < 1u << p->atoms; s++) {
-        if (!in_reach(p, s)) continue;
+    for (uint32_t s = from; s <= p->reach; s++) {
+        if (!marked(p, s)) continue;
         degrees_of(p, (uint16_t)s, degrees);
-        if (!preferred(p, top, degrees) && is_answer(p, (uint16_t)s)) return s;
+        if (!preferred(p, top, degrees)) return s;
     }
     return NONE;
 }
@@ -366,7 +381,8 @@ static size_t walk(const Program *p, int only_best, uint16_t *sets) {
     return count;
 }
 
-static uint32_t listed(const Program *p, int only_best, uint16_t *sets, size_t room) {
+static uint32_t listed(Program *p, int only_best, uint16_t *sets, size_t room) {
+    mark(p);
     size_t count = walk(p, only_best, 0);
     if (count > room) return refused(11);
     walk(p, only_best, sets);
@@ -379,6 +395,7 @@ uint32_t plain_pick(const uint8_t *page, size_t length, uint16_t flags) {
     Program p;
     int fault = open(&p, page, length, flags);
     if (fault) return refused(fault);
+    mark(&p);
     uint32_t champion = NONE, s = next_best(&p, next_set(&p, 0), &champion);
     return s == NONE ? refused(10) : s;
 }
