@@ -1,4 +1,4 @@
-/* The pages with known results of document 01, but for the one with 59,535 sets, which pages.c makes. */
+/* The pages with known results, but for the one with 59,535 sets, which pages.c makes. */
 #include "cases.h"
 
 const Case cases[CASES] = {

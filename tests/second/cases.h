@@ -1,4 +1,4 @@
-/* The pages with known results of document 01: what it says of each, to which the second solver is held first. */
+/* The pages with known results: what is known of each, to which the second solver is held first. */
 #ifndef SECOND_CASES_H
 #define SECOND_CASES_H
 #include "pages.h"

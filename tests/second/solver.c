@@ -1,4 +1,4 @@
-/* The second solver, written from document 01 and its two papers by other roads than the engine's.
+/* The second solver, written from the requirements and the two papers by other roads than the engine's.
 
    Page     parsed into a sheet of numbers first; then a table of faults, in order, is asked for the first that holds.
    Sets     road 1: every split program is built, and for each set its Gelfond-Lifschitz reduct and least model
@@ -508,5 +508,5 @@ Answer second_compare(const Solved *s, uint16_t first, uint16_t second) {
 
 int second_prefers(const Solved *s, int m, int n) { return is_preferred(&s->ranked[m], &s->ranked[n]); }
 
-/* As document 01 lists them: a string with the letter of each number, a blank for all others. */
+/* As the requirements list them: a string with the letter of each number, a blank for all others. */
 uint8_t second_letter(uint16_t number) { return number < MOST ? (uint8_t)" PPPPPPPPCFCCF"[number] : ' '; }
