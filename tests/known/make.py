@@ -3,14 +3,15 @@
 With --check it writes nothing, looks at each case of the two files, and counts; folders after it are looked at instead of crates/known,
 with a count for each.
 
-The lines come from meaning.py, which evaluates the definitions, and what the scope document prints of a page has to agree with
-them: `said` below has the document's own numbers. The engine is not asked.
+The lines come from meaning.py, which evaluates the definitions. What was known of a page beforehand, from the papers or by hand, stands
+in the calls of `said` below, and has to agree with them. The engine is not asked.
 """
 import importlib.util
 import pathlib
 import struct
 import sys
 
+sys.dont_write_bytecode = True  # the tests leave nothing behind in the repository
 import meaning
 
 TOP = pathlib.Path(__file__).resolve().parents[2]
@@ -163,7 +164,7 @@ class Case:
         self.rows(1)
 
     def said(self, sets=None, pick=None, degrees=(), compare=(), split=(), not_answers=()):
-        """What the scope document prints of this page; the definitions have to give the same. Its calls are run."""
+        """What is known of this page beforehand; the definitions have to give the same. Its calls are run."""
         self.list()
         self.best()
         self.pick()
@@ -205,7 +206,7 @@ def with_byte(data, at, value):
 
 
 def known_pages():
-    """The pages whose results the scope document prints."""
+    """The pages with known results; the first twelve are those of crates/lpod/proofs/KnownPages.antt."""
     case_1 = Case("case 1", EXAMPLES.pages["two"])
     assert case_1.page.data.hex() == "010002000100020000001200160018001800" "020000000001"
     case_1.said([1, 2], pick=1, split={1: 1, 2: 1}, compare=[(1, 2, "+1"), (1, 1, "0")])

@@ -1,4 +1,4 @@
-"""What a page means, straight from the definitions of the scope document. Short and slow, and it shares nothing with the engine:
+"""What a page means, straight from the definitions that docs/MEANING.md explains. Short and slow, and it shares nothing with the engine:
 the lines that the engine's programs have to print are made by it.
 
 A set of atoms is a number, and bit i is atom i. A row is a triple of lists: head, positive body, negative body.

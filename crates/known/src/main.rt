@@ -43,7 +43,12 @@ fn run_case(text: &[u8], case: Case) {
     say::words(input::part(text, case.name, case.flags));
     say::with(b", flags ", flags as u64);
     say::words(b"\n");
-    run_calls(text, case, input::part(text, case.page, case.page_end), flags);
+    run_calls(
+        text,
+        case,
+        input::part(text, case.page, case.page_end),
+        flags,
+    );
 }
 
 // The cases, one after the other. No more than 65,536 bytes of input are read.

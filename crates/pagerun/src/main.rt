@@ -1,6 +1,7 @@
 // Reads a flag word (two bytes, low first) and a page from standard input, and prints the page's answer sets with their degrees, which of them
 // are best, and the pick. A refusal is printed as its number.
 ghost use mathlib.Core.Path.{_≡_};
+ghost use Prim.Native.Nat.{_+_, _<_};
 ghost use lib.ListN.{getD};
 use libc::STDIN_FILENO;
 use libc::STDOUT_FILENO;
@@ -22,11 +23,13 @@ fn entry(list: &[u16], k: u32) -> u16
 }
 
 // A degree as a digit. In an answer set every degree is one from 1 to 6.
-fn digit(degree: u8) -> u8 {
-    match degree {
-        0..=9 => b'0' + degree,
-        _ => b'?',
+fn digit(degree: u8) -> u8
+    ensures { λ r. ⌜ (degree < 10 → r ≡ 48 + degree) ⌝ }
+{
+    if degree < 10 {
+        return b'0' + degree;
     }
+    b'?'
 }
 
 // One line: a word and a number.
