@@ -11,6 +11,7 @@
 
    What a call returns
      65,536 times the refusal number, plus the value. PIPEOTTER_NUMBER and PIPEOTTER_VALUE take them apart.
+     The letter alone is a plain byte.
      Number 0 is "accepted". Look at the number first: the value 0 is also a good value (the empty set, a count of 0).
      Where several refusals hold, the lowest number of the call's own list is returned. Each number is returned
      exactly when its condition holds, so it can be relied on as a diagnosis.
