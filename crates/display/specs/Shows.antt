@@ -1,0 +1,88 @@
+-- What stands on the display. Atoms 0 to 3 are the outcomes live, second, held and none.
+use mathlib.Core.Path.{_≡_}
+use mathlib.Core.Bool.{Bool, true, false, _||_, not, cond}
+use mathlib.Core.List.{List, [], _∷_, _++_}
+use mathlib.Core.Option.{Option, some, none}
+use Prim.Native.Nat.{ℕ, zero, suc}
+use lib.Dec.{eqb, ltb}
+use lib.ListN.{length}
+use lib.Ieee.{Float}
+use Rattle.atoms.specs.Atoms.{has}
+use Rattle.lpod.specs.Lists.{keep, below}
+use Rattle.lpod.specs.Best.{pick}
+use Rattle.page.specs.Program.{program}
+use Rattle.page.specs.Refusals.{Refusal, refuse, firstThat}
+use Rattle.engine.specs.Calls.{setOr, pickRefusals}
+use Rattle.display.specs.Readings.{finite}
+use Rattle.display.specs.declared.Readings.{Readings}
+use Rattle.display.specs.declared.Shown.{Shown}
+use Rattle.display.specs.declared.Shown.the-variants.{Live, Second, Held, NoNumber}
+use Rattle.display.specs.declared.Displayed.{Displayed}
+
+-- ---- the chosen outcome
+-- the outcomes that a set holds, rising
+unfoldable pub outcomes : ℕ → List ℕ
+outcomes set = keep (has set) (below 4)
+
+-- exactly one of them is chosen
+unfoldable pub oneChosen : ℕ → Bool
+oneChosen set = eqb (length (outcomes set)) 1
+
+-- that one; 16 is none
+unfoldable pub firstOf : List ℕ → ℕ
+firstOf [] = 16
+firstOf (a ∷ l) = a
+
+-- ---- what it shows
+-- each case of what is shown has these values: its outcome, and the number that stands there
+unfoldable pub outcomeOf : Shown → ℕ
+outcomeOf (Live x) = 0
+outcomeOf (Second x) = 1
+outcomeOf (Held x) = 2
+outcomeOf NoNumber = 3
+
+unfoldable pub readingOf : Shown → Option Float
+readingOf (Live x) = some x
+readingOf (Second x) = some x
+readingOf (Held x) = some x
+readingOf NoNumber = none
+
+-- an outcome with its reading; the last one has none
+unfoldable pub shownAt : ℕ → Readings → Shown
+shownAt zero r = Live (r .live)
+shownAt (suc zero) r = Second (r .second)
+shownAt (suc (suc zero)) r = Held (r .held)
+shownAt (suc (suc (suc n))) r = NoNumber
+
+-- its number can stand on a display, where it has one
+unfoldable pub fit : Option Float → Bool
+fit none = true
+fit (some x) = finite x
+
+-- ---- the call
+-- the set that is picked, read where the pick is accepted
+unfoldable pub pickSet : List ℕ → ℕ → ℕ
+pickSet page flags = setOr 0 (pick (program page flags))
+
+-- 14: fewer than four atoms, or not exactly one of the four in the pick
+unfoldable pub noOutcome : List ℕ → ℕ → Bool
+noOutcome page flags = ltb (program page flags .atoms) 4 || not (oneChosen (pickSet page flags))
+
+-- what the pick shows, read where it holds exactly one of the four
+unfoldable pub shownBy : Readings → List ℕ → ℕ → Shown
+shownBy r page flags = shownAt (firstOf (outcomes (pickSet page flags))) r
+
+-- those of the pick, then 14, then 15: the chosen reading is infinite or not a number
+unfoldable pub displayRefusals : Readings → List ℕ → ℕ → List Refusal
+displayRefusals r page flags =
+    pickRefusals page flags ++ (refuse 14 (noOutcome page flags) ∷ refuse 15 (not (fit (readingOf (shownBy r page flags)))) ∷ [])
+
+unfoldable pub displayNo : Readings → List ℕ → ℕ → ℕ
+displayNo r page flags = firstThat (displayRefusals r page flags)
+
+-- with number n: what is shown; where n refuses, no number
+unfoldable pub displayed : ℕ → Shown → Displayed
+displayed n s = record { no = n; shown = cond (eqb n 0) s NoNumber }
+
+abbrev pub DisplaySays : Readings → List ℕ → ℕ → Displayed → Type 0
+DisplaySays r page flags d = d ≡ displayed (displayNo r page flags) (shownBy r page flags)

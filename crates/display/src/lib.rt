@@ -1,0 +1,71 @@
+// The display of one product, on whose pages atoms 0 to 3 are live, second, held and none: what it shows of the three current readings, by a page
+// and a flag word. Of the page it knows only what public calls answer: the pick, and how many atoms there are.
+ghost use mathlib.Core.Path.{_≡_};
+ghost use Rattle.display.specs.Shows as means;
+
+pub mod reading;
+
+// The three current readings in NTU.
+pub struct Readings {
+    pub live: f32,
+    pub second: f32,
+    pub held: f32,
+}
+
+// What stands on the display: one of the readings, or no number.
+pub enum Shown {
+    Live(f32),
+    Second(f32),
+    Held(f32),
+    NoNumber,
+}
+
+// A refusal number, and what is shown. A refused call shows no number. So does a pick of "none", which has the number 0.
+pub struct Displayed {
+    pub no: u16,
+    pub shown: Shown,
+}
+
+// An outcome with its reading.
+fn shown_at(outcome: u32, readings: Readings) -> Shown
+    ensures { λ r. ⌜ r ≡ means.shownAt outcome readings ⌝ }
+{
+    match outcome {
+        0 => Shown::Live(readings.live),
+        1 => Shown::Second(readings.second),
+        2 => Shown::Held(readings.held),
+        _ => Shown::NoNumber,
+    }
+}
+
+// Its number is neither infinite nor not a number, or it has none.
+fn is_fit(shown: Shown) -> bool
+    ensures { λ r. ⌜ r ≡ means.fit (means.readingOf shown) ⌝ }
+{
+    match shown {
+        Shown::Live(x) => reading::is_finite(x),
+        Shown::Second(x) => reading::is_finite(x),
+        Shown::Held(x) => reading::is_finite(x),
+        Shown::NoNumber => true,
+    }
+}
+
+// The refusals of the pick, then 14 where the page has fewer than four atoms or the pick does not hold exactly one of the four, then 15 where the
+// chosen reading is infinite or not a number; else what the pick shows.
+pub fn display(readings: Readings, page: &[u8], flags: u16) -> Displayed
+    ensures { λ r. ⌜ means.DisplaySays readings (now (page .entry)) flags r ⌝ }
+{
+    let picked = engine::pick::pick(page, flags);
+    if picked.no != 0 {
+        return Displayed { no: picked.no, shown: Shown::NoNumber };
+    }
+    let outcomes = atoms::common(picked.set, 15);
+    if (page::fields::atom_count(page) < 4) | (atoms::how_many(outcomes) != 1) {
+        return Displayed { no: 14, shown: Shown::NoNumber };
+    }
+    let shown = shown_at(atoms::lowest(outcomes), readings);
+    if !is_fit(shown) {
+        return Displayed { no: 15, shown: Shown::NoNumber };
+    }
+    Displayed { no: 0, shown }
+}
