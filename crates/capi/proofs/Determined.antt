@@ -2,9 +2,10 @@
 use mathlib.Core.Path.{_≡_}
 use mathlib.Core.List.{List}
 use Prim.Native.Nat.{ℕ}
+use lib.Ieee.{Float}
 use Rattle.page.specs.Letter.{letterOf}
 use Rattle.engine.proofs.Determined.{one-answer}
-use Rattle.capi.specs.Words.{pickWord, reductWord, hereThereWord, splitWord, compareWord, SetsGiven, DegreesGiven}
+use Rattle.capi.specs.Words.{pickWord, reductWord, hereThereWord, splitWord, compareWord, SetsGiven, DegreesGiven, displayWord}
 
 pub pipeotter-pick : (page : List ℕ) (flags x y : ℕ) → x ≡ pickWord page flags → y ≡ pickWord page flags → x ≡ y
 pipeotter-pick page flags x y = one-answer
@@ -23,6 +24,9 @@ pipeotter-compare page flags first second x y = one-answer
 
 pub pipeotter-letter : (number x y : ℕ) → x ≡ letterOf number → y ≡ letterOf number → x ≡ y
 pipeotter-letter number x y = one-answer
+
+pub pipeotter-display : (live second held : Float) (page : List ℕ) (flags x y : ℕ) → x ≡ displayWord live second held page flags → y ≡ displayWord live second held page flags → x ≡ y
+pipeotter-display live second held page flags x y = one-answer
 
 -- the lists of sets, all or best; the degrees
 pub pipeotter-sets : (sets page : List ℕ) (flags : ℕ) (out : List ℕ) (x y : ℕ) (after later : List ℕ) → SetsGiven sets page flags out x after → SetsGiven sets page flags out y later

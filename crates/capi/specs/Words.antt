@@ -5,6 +5,7 @@ use mathlib.Core.List.{List}
 use Prim.Native.Nat.{ℕ, zero, suc, _+_, _*_}
 use lib.IntN.{ℤ, pos, negsuc}
 use lib.ListN.{length}
+use lib.Ieee.{Float, nan}
 use Rattle.lpod.specs.Answer.{answerSets}
 use Rattle.lpod.specs.Preferred.{compare}
 use Rattle.lpod.specs.Best.{bestSets, pick}
@@ -15,6 +16,11 @@ use Rattle.routes.specs.Split.{splitTest}
 use Rattle.engine.specs.Calls.{picked, pickNo, listed, listNo, stored}
 use Rattle.engine.specs.Degrees.{graded, degreesNo, degreesAfter}
 use Rattle.engine.specs.Compare.{compared, compareNo}
+use Rattle.display.specs.Readings.{bitsOf}
+use Rattle.display.specs.Shows.{readingOf, readingOr, shownBy, displayNo, displayed}
+use Rattle.display.specs.declared.Readings.{Readings}
+use Rattle.display.specs.declared.Shown.{Shown}
+use Rattle.display.specs.declared.Shown.the-variants.{Live, Second, Held, NoNumber}
 
 unfoldable pub word : ℕ → ℕ → ℕ
 word n value = 65536 * n + value
@@ -58,3 +64,19 @@ degreesWord page flags set out = let r = graded (degreesNo page flags set (lengt
 
 abbrev pub DegreesGiven : List ℕ → ℕ → ℕ → List ℕ → ℕ → List ℕ → Type 0
 DegreesGiven page flags set out r after = (r ≡ degreesWord page flags set out) × (after ≡ degreesAfter page flags set out)
+
+-- the display: the case that is shown; and, with it, the bits of its reading, those of a NaN where there is none
+unfoldable pub caseValue : Shown → ℕ
+caseValue (Live x) = 1
+caseValue (Second x) = 2
+caseValue (Held x) = 3
+caseValue NoNumber = 0
+
+unfoldable pub shownWord : ℕ → Shown → ℕ
+shownWord n s = 4294967296 * word n (caseValue s) + bitsOf (readingOr nan (readingOf s))
+
+unfoldable pub displayWord : Float → Float → Float → List ℕ → ℕ → ℕ
+displayWord live second held page flags =
+    let r : Readings = record { live = live; second = second; held = held } in
+    let d = displayed (displayNo r page flags) (shownBy r page flags) in
+    shownWord (d .no) (d .shown)

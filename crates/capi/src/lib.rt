@@ -116,3 +116,27 @@ pub extern "C" fn pipeotter_letter(number: u16) -> u8
 {
     page::letter::letter(number)
 }
+
+// What C gets for the case that is shown: 0 no number, 1 live, 2 second, 3 held.
+fn case_value(shown: display::Shown) -> u16
+    ensures { λ r. ⌜ r ≡ means.caseValue shown ⌝ }
+{
+    match shown {
+        display::Shown::Live(x) => 1,
+        display::Shown::Second(x) => 2,
+        display::Shown::Held(x) => 3,
+        display::Shown::NoNumber => 0,
+    }
+}
+
+// What the display shows: in the upper half the number and the case as one word, in the lower half the bits of the reading that is shown. Where none
+// is, those of a NaN: whoever shows them without a look at the case does not show clean water.
+#[no_mangle]
+pub extern "C" fn pipeotter_display(live: f32, second: f32, held: f32, page: &[u8], flags: u16) -> u64
+    ensures { λ r. ⌜ r ≡ means.displayWord live second held (now (page .entry)) flags ⌝ }
+{
+    let r = display::display(display::Readings { live, second, held }, page, flags);
+    let shown = r.shown;
+    let upper = word(r.no, case_value(shown)) as u64;
+    4294967296 * upper + display::reading::bits_of(display::reading_of(shown)) as u64
+}

@@ -1,3 +1,5 @@
 pub mod Finite
 pub mod OneOutcome
 pub mod Turns
+pub mod Promises
+pub mod Determined

@@ -1,6 +1,6 @@
 -- What the call answers at each of its four ends, by what it has found up to there: the pick's own refusal, 14, 15, or what is shown. The number is that
 -- of the first refusal of the list. Assumes nothing.
-use mathlib.Core.Path.{_≡_, refl, sym, ap, _∙_}
+use mathlib.Core.Path.{_≡_, sym, ap, _∙_}
 use mathlib.Core.Bool.{Bool, true, false, _||_, not, cond}
 use mathlib.Core.List.{List, [], _∷_}
 use Prim.Native.Nat.{ℕ}
@@ -17,11 +17,10 @@ use Rattle.engine.specs.Calls.{setOr, pickRefusals, pickNo, picked, PickSays}
 use Rattle.engine.specs.declared.pick.Picked.{Picked}
 use Rattle.engine.proofs.Refused.{refused-first, refused-later}
 use Rattle.engine.proofs.Given.{where-accepted}
-use Rattle.display.specs.Shows.{oneChosen, readingOf, shownAt, fit, pickSet, noOutcome, shownBy, displayRefusals, displayNo, displayed}
+use Rattle.display.specs.Shows.{oneChosen, readingOf, shownAt, fit, pickSet, noOutcome, shownBy, displayRefusals, displayNo, displayed, DisplaySays}
 use Rattle.display.specs.declared.Readings.{Readings}
 use Rattle.display.specs.declared.Shown.{Shown}
 use Rattle.display.specs.declared.Shown.the-variants.{NoNumber}
-use Rattle.display.specs.declared.Displayed.{Displayed}
 use Rattle.display.proofs.OneOutcome.{how-many-chosen, lowest-chosen}
 
 pub pick-numbered : (page : List ℕ) (flags : ℕ) → T (numbered (pickRefusals page flags))
@@ -30,7 +29,7 @@ pick-numbered page flags = tt
 
 module _ (r : Readings) (page : List ℕ) (flags : ℕ) (p : Picked) (says : PickSays page flags p) where
   -- a number that refuses shows no number
-  refused : (n : ℕ) → (n ≡ 0 → ⊥) → n ≡ displayNo r page flags → _≡_ {A = Displayed} (record { no = n; shown = NoNumber }) (displayed (displayNo r page flags) (shownBy r page flags))
+  refused : (n : ℕ) → (n ≡ 0 → ⊥) → n ≡ displayNo r page flags → DisplaySays r page flags (record { no = n; shown = NoNumber })
   unfolding displayed
   refused n z e = rw (← e, ne-eqb n 0 z)
 
@@ -50,7 +49,7 @@ module _ (r : Readings) (page : List ℕ) (flags : ℕ) (p : Picked) (says : Pic
   unfolding picked pickSet
   set-picked z = ap (λ (x : Picked). x .set) says ∙ where-accepted (pickNo page flags) (setOr 0 (pick (program page flags))) 0 (sym number ∙ z)
 
-  pub by-pick : (p .no ≡ 0 → ⊥) → _≡_ {A = Displayed} (record { no = p .no; shown = NoNumber }) (displayed (displayNo r page flags) (shownBy r page flags))
+  pub by-pick : (p .no ≡ 0 → ⊥) → DisplaySays r page flags (record { no = p .no; shown = NoNumber })
   unfolding displayNo displayRefusals late pickNo
   by-pick z = refused (p .no) z (refused-first (pickRefusals page flags) late (pick-numbered page flags) (p .no) number z)
 
@@ -60,7 +59,7 @@ module _ (r : Readings) (page : List ℕ) (flags : ℕ) (p : Picked) (says : Pic
     unfolding noOutcome oneChosen program
     no-outcome = rw (is-atoms, is-count, is-part, how-many-chosen (p .set), set-picked z)
 
-    pub by-outcome : (ltb a 4 || not (eqb n 1)) ≡ true → _≡_ {A = Displayed} (record { no = 14; shown = NoNumber }) (displayed (displayNo r page flags) (shownBy r page flags))
+    pub by-outcome : (ltb a 4 || not (eqb n 1)) ≡ true → DisplaySays r page flags (record { no = 14; shown = NoNumber })
     by-outcome t = refused 14 (λ e. omega arith) (sym (later z ∙ rw (no-outcome, t)))
 
     -- l is the lowest of the four, s what is shown, f whether it can be
@@ -69,9 +68,9 @@ module _ (r : Readings) (page : List ℕ) (flags : ℕ) (p : Picked) (says : Pic
       unfolding shownBy
       shown = rw (is-shown, is-lowest, is-part, lowest-chosen (p .set), set-picked z)
 
-      pub by-reading : f ≡ false → _≡_ {A = Displayed} (record { no = 15; shown = NoNumber }) (displayed (displayNo r page flags) (shownBy r page flags))
+      pub by-reading : f ≡ false → DisplaySays r page flags (record { no = 15; shown = NoNumber })
       by-reading u = refused 15 (λ e. omega arith) (sym (later z ∙ rw (no-outcome, t, ← shown, ← is-fit, u)))
 
-      pub by-pick-shown : f ≡ true → _≡_ {A = Displayed} (record { no = 0; shown = s }) (displayed (displayNo r page flags) (shownBy r page flags))
+      pub by-pick-shown : f ≡ true → DisplaySays r page flags (record { no = 0; shown = s })
       unfolding displayed
       by-pick-shown u = rw (later z, no-outcome, t, ← shown, ← is-fit, u)

@@ -47,6 +47,11 @@ readingOf (Second x) = some x
 readingOf (Held x) = some x
 readingOf NoNumber = none
 
+-- as a plain reading: d where there is none
+unfoldable pub readingOr : Float → Option Float → Float
+readingOr d none = d
+readingOr d (some x) = x
+
 -- an outcome with its reading; the last one has none
 unfoldable pub shownAt : ℕ → Readings → Shown
 shownAt zero r = Live (r .live)

@@ -1,6 +1,7 @@
 // The display of one product, on whose pages atoms 0 to 3 are live, second, held and none: what it shows of the three current readings, by a page
 // and a flag word. Of the page it knows only what public calls answer: the pick, and how many atoms there are.
 ghost use mathlib.Core.Path.{_≡_};
+ghost use lib.Ieee.{nan};
 ghost use Rattle.display.specs.Shows as means;
 
 pub mod reading;
@@ -35,6 +36,18 @@ fn shown_at(outcome: u32, readings: Readings) -> Shown
         1 => Shown::Second(readings.second),
         2 => Shown::Held(readings.held),
         _ => Shown::NoNumber,
+    }
+}
+
+// The reading that is shown; a NaN where none is.
+pub fn reading_of(shown: Shown) -> f32
+    ensures { λ r. ⌜ r ≡ means.readingOr nan (means.readingOf shown) ⌝ }
+{
+    match shown {
+        Shown::Live(x) => x,
+        Shown::Second(x) => x,
+        Shown::Held(x) => x,
+        Shown::NoNumber => reading::not_a_number(),
     }
 }
 

@@ -1,5 +1,6 @@
 // One reading: whether it can be shown, and its bits.
 ghost use mathlib.Core.Path.{_≡_};
+ghost use lib.Ieee.{nan};
 ghost use Rattle.display.specs.Readings as means;
 
 // Neither infinite nor not a number.
@@ -11,6 +12,14 @@ pub fn is_finite(x: f32) -> bool
         return -top < x;
     }
     false
+}
+
+// A NaN, made by a division.
+pub fn not_a_number() -> f32
+    ensures { λ r. ⌜ r ≡ nan ⌝ }
+{
+    let zero = 0f32;
+    zero / zero
 }
 
 // Its bits. A NaN has those of the plain quiet NaN.
@@ -30,6 +39,5 @@ pub fn of_bits(bits: u32) -> f32
     if bits % 0x8000_0000 <= 0x7f80_0000 {
         return f32::from_bits(bits);
     }
-    let zero = 0f32;
-    zero / zero
+    not_a_number()
 }

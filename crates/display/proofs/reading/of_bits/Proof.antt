@@ -1,5 +1,5 @@
--- `reading::of_bits`: a pattern above the infinity's, without its sign, is a NaN's; and 0 / 0 is a NaN. Assumes nothing.
-use lib.Ieee.{div, ofBits}
+-- `reading::of_bits`: a pattern above the infinity's, without its sign, is a NaN's. Assumes nothing.
+use mathlib.Core.Path.{_∙_}
 use Rattle.display.proofs.Finite.{no-nan-pattern, nan-pattern}
 use borrow.Author.Needs.{needs}
 use Rattle.display.proofs.reading.of_bits.Statement.{statement}
@@ -11,9 +11,11 @@ float-from-bits-result c = no-nan-pattern (c .before .args .bits) (c .if1 .taken
 returns : tie.Need-returns
 returns c = search needs
 
+not-a-number-requires : tie.Need-not-a-number-requires
+not-a-number-requires c κs = search needs
+
 returns-2 : tie.Need-returns-2
-unfolding div ofBits
-returns-2 c = nan-pattern (c .before .args .bits) (c .if1 .left)
+returns-2 c = c .not-a-number .ensures ∙ nan-pattern (c .before .before .args .bits) (c .before .if1 .left)
 
 pub of-bits-spec : {M : Type 1} → statement M
-of-bits-spec = tie.close (tie.spec float-from-bits-result returns returns-2)
+of-bits-spec = tie.close (tie.spec float-from-bits-result returns not-a-number-requires returns-2)
