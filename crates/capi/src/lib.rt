@@ -132,7 +132,13 @@ fn case_value(shown: display::Shown) -> u16
 // What the display shows: in the upper half the number and the case as one word, in the lower half the bits of the reading that is shown. Where none
 // is, those of a NaN: whoever shows them without a look at the case does not show clean water.
 #[no_mangle]
-pub extern "C" fn pipeotter_display(live: f32, second: f32, held: f32, page: &[u8], flags: u16) -> u64
+pub extern "C" fn pipeotter_display(
+    live: f32,
+    second: f32,
+    held: f32,
+    page: &[u8],
+    flags: u16,
+) -> u64
     ensures { λ r. ⌜ r ≡ means.displayWord live second held (now (page .entry)) flags ⌝ }
 {
     let r = display::display(display::Readings { live, second, held }, page, flags);

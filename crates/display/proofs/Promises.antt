@@ -2,21 +2,17 @@
 -- Assumes nothing.
 use mathlib.Core.Path.{_≡_, refl, sym, ap, _∙_, subst}
 use mathlib.Core.Bool.{Bool, true, false, _||_, not, cond, true≢false}
-use mathlib.Core.Logic.{_↔_, ⊎-elim}
-use mathlib.Core.List.{List, [], _∷_, _++_, List·Memᴰ, List·Memᴰ·head, List·Memᴰ·tail, List·Memᴰ·cases-cons}
+use mathlib.Core.List.{List, [], _∷_, _++_}
 use mathlib.Core.Option.{Option, some, none, Option·some-injective}
 use Prim.Native.Nat.{ℕ, zero, suc, _^_, _≤_, _<_}
 use native.Mathlib.Omega.{arith}
 use native.Mathlib.Decide.{ℕ-discrete}
 use lib.Dec.{T, eqb, eqb·suc-zero, ltb}
-use lib.ListN.{length}
 use lib.Ieee.{Float, nan, inf, fin, isNan, binary32}
 use lib.Ieee.Bits.{toBits-ofBits}
-use borrow.Author.Tests.{eqb-true, eq-eqb, not-false}
-use Rattle.atoms.specs.Atoms.{has}
-use Rattle.atoms.proofs.Truth.{true-yes}
-use Rattle.lpod.specs.Lists.{every, keep, below, Rising}
-use Rattle.lpod.proofs.Lists.{keep-in, in-keep, in-numbers, numbers-in, numbers-rise, keep-rises}
+use borrow.Author.Tests.{le-ltb, not-false}
+use Rattle.atoms.proofs.Truth.{true-yes, yes-true}
+use Rattle.lpod.specs.Lists.{every}
 use Rattle.lpod.specs.Answer.{answer}
 use Rattle.lpod.specs.Best.{pick}
 use Rattle.page.specs.Program.{program}
@@ -26,50 +22,13 @@ use Rattle.engine.specs.Calls.{setOr, pickRefusals, pickNo, picked}
 use Rattle.engine.proofs.Given.{Given, given, numbered-append, where-refused, where-accepted}
 use Rattle.engine.proofs.Demands.{NonePreferred, demand-3-pick}
 use Rattle.display.specs.Readings.{finite, bitsOf, ofWord}
-use Rattle.display.specs.Shows.{outcomes, oneChosen, firstOf, readingOf, shownAt, fit, pickSet, noOutcome, shownBy, displayRefusals, displayNo, displayed, DisplaySays}
+use Rattle.display.specs.Shows.{outcomes, oneChosen, firstOf, outcomeOf, readingOf, shownAt, fit, unfit, pickSet, noOutcome, shownBy, displayRefusals, displayNo, displayed, DisplaySays}
 use Rattle.display.specs.declared.Readings.{Readings}
 use Rattle.display.specs.declared.Shown.{Shown}
 use Rattle.display.specs.declared.Shown.the-variants.{Live, Second, Held, NoNumber}
 use Rattle.display.specs.declared.Displayed.{Displayed}
+use Rattle.display.proofs.OneOutcome.{OnlyOutcome, one-is-only, only-is-one}
 use Rattle.display.proofs.Turns.{pick-numbered}
-
--- ---- exactly one of the four
--- a is the one outcome that the set holds
-pub record OnlyOutcome (set a : ℕ) : Type 0 where
-  pub outcome : a < 4
-  pub held : T (has set a)
-  pub alone : (b : ℕ) → b < 4 → T (has set b) → b ≡ a
-
-module _ (set : ℕ) where
-  in-outcomes : (a : ℕ) → List·Memᴰ a (outcomes set) ↔ ((a < 4) × T (has set a))
-  unfolding outcomes
-  in-outcomes a = (
-    (λ m. let i = in-keep (has set) (below 4) a m in (in-numbers 0 4 a (i .0) .1, i .1)),
-    (λ h. keep-in (has set) (below 4) a (numbers-in 0 4 a (omega arith) (h .0)) (h .1)),
-  )
-
-  pub one-is-only : oneChosen set ≡ true → OnlyOutcome set (firstOf (outcomes set))
-  unfolding oneChosen firstOf
-  one-is-only t = go (outcomes set) (λ a. in-outcomes a) (eqb-true (length (outcomes set)) 1 t)
-    where
-      go : (l : List ℕ) → ((a : ℕ) → List·Memᴰ a l ↔ ((a < 4) × T (has set a))) → length l ≡ 1 → OnlyOutcome set (firstOf l)
-      go [] f e = absurd (omega arith)
-      go (a ∷ []) f e =
-          let h = f a .0 (List·Memᴰ·head refl) in
-          record { outcome = h .0; held = h .1; alone = λ b k u. ⊎-elim (λ q. q) (λ m. elim m [ ]) (List·Memᴰ·cases-cons (f b .1 (k, u))) }
-      go (a ∷ b ∷ l) f e = absurd (omega arith)
-
-  pub only-is-one : (a : ℕ) → OnlyOutcome set a → oneChosen set ≡ true
-  unfolding oneChosen outcomes
-  only-is-one a o = eq-eqb (length (outcomes set)) 1 (go (outcomes set) (λ b. in-outcomes b) (keep-rises (has set) (below 4) (numbers-rise 0 4)))
-    where
-      go : (l : List ℕ) → ((b : ℕ) → List·Memᴰ b l ↔ ((b < 4) × T (has set b))) → Rising l → length l ≡ 1
-      go [] f rise = elim (f a .1 (o .outcome, o .held)) [ ]
-      go (x ∷ []) f rise = refl
-      go (x ∷ y ∷ l) f rise =
-          let h = f x .0 (List·Memᴰ·head refl) in
-          let k = f y .0 (List·Memᴰ·tail (List·Memᴰ·head refl)) in
-          absurd (omega (arith, rise .0 y (List·Memᴰ·head refl), o .alone x (h .0) (h .1), o .alone y (k .0) (k .1)))
 
 -- where 14 does not hold, the pick has exactly one
 outcome-chosen : (page : List ℕ) (flags : ℕ) → noOutcome page flags ≡ false → OnlyOutcome (pickSet page flags) (firstOf (outcomes (pickSet page flags)))
@@ -96,11 +55,11 @@ module _ (r : Readings) (page : List ℕ) (flags : ℕ) (d : Displayed) (says : 
   refused-blank z = ap (λ (x : Displayed). x .shown) says ∙ where-refused (displayNo r page flags) (shownBy r page flags) NoNumber (λ e. z (number ∙ e))
 
   -- ---- what an accepted call shows
-  passed : d .no ≡ 0 → (pickNo page flags ≡ 0) × (noOutcome page flags ≡ false) × (not (fit (readingOf (shownBy r page flags))) ≡ false)
+  passed : d .no ≡ 0 → (pickNo page flags ≡ 0) × (noOutcome page flags ≡ false) × (unfit (shownBy r page flags) ≡ false)
   unfolding displayNo displayRefusals pickNo numbered every
   passed z =
       let g = given-append (pickRefusals page flags) (_ ∷ _ ∷ []) (pick-numbered page flags) (sym number ∙ z) in
-      let f = given-denied (refuse 14 (noOutcome page flags) ∷ refuse 15 (not (fit (readingOf (shownBy r page flags)))) ∷ []) tt (g .1) in
+      let f = given-denied (refuse 14 (noOutcome page flags) ∷ refuse 15 (unfit (shownBy r page flags)) ∷ []) tt (g .1) in
       (g .0, f .0, f .1 .0)
 
   -- the chosen outcome with its reading
@@ -108,12 +67,33 @@ module _ (r : Readings) (page : List ℕ) (flags : ℕ) (d : Displayed) (says : 
   unfolding displayed
   shown-chosen z = ap (λ (x : Displayed). x .shown) says ∙ where-accepted (displayNo r page flags) (shownBy r page flags) NoNumber (sym number ∙ z)
 
-  pub shown-only : d .no ≡ 0 → (a : ℕ) × (OnlyOutcome (pickSet page flags) a × (d .shown ≡ shownAt a r))
+  outcome-at : (a : ℕ) → a < 4 → outcomeOf (shownAt a r) ≡ a
+  unfolding outcomeOf shownAt
+  outcome-at zero l = refl
+  outcome-at (suc zero) l = refl
+  outcome-at (suc (suc zero)) l = refl
+  outcome-at (suc (suc (suc a))) l = omega arith
+
+  -- it is the one outcome that the pick holds, with its reading
+  pub shown-only : d .no ≡ 0 → OnlyOutcome (pickSet page flags) (outcomeOf (d .shown)) × (d .shown ≡ shownAt (outcomeOf (d .shown)) r)
   unfolding shownBy
-  shown-only z = (
-    firstOf (outcomes (pickSet page flags)),
-    (outcome-chosen page flags (passed z .1), shown-chosen z),
-  )
+  shown-only z =
+      let o = outcome-chosen page flags (passed z .1) in
+      let e : outcomeOf (d .shown) ≡ firstOf (outcomes (pickSet page flags)) = ap outcomeOf (shown-chosen z) ∙ outcome-at (firstOf (outcomes (pickSet page flags))) (o .outcome) in
+      (subst (OnlyOutcome (pickSet page flags)) (sym e) o, shown-chosen z ∙ ap (λ (a : ℕ). shownAt a r) (sym e))
+
+  -- and it is shown wherever the pick is accepted, the page has four atoms, and the chosen reading, if there is one, is finite
+  pub shown-where : (a : ℕ) → pickNo page flags ≡ 0 → 4 ≤ program page flags .atoms → OnlyOutcome (pickSet page flags) a → T (fit (readingOf (shownAt a r)))
+      → (d .no ≡ 0) × (d .shown ≡ shownAt a r)
+  unfolding displayNo displayRefusals pickNo firstThat noOutcome shownBy unfit
+  shown-where a k l o q =
+      let one = only-is-one (pickSet page flags) a o in
+      let f = one-is-only (pickSet page flags) one in
+      let e : shownBy r page flags ≡ shownAt a r = ap (λ (b : ℕ). shownAt b r) (o .alone (firstOf (outcomes (pickSet page flags))) (f .outcome) (f .held)) in
+      let n : noOutcome page flags ≡ false = rw (le-ltb (program page flags .atoms) 4 l, one) in
+      let u : unfit (shownBy r page flags) ≡ false = ap unfit e ∙ ap not (yes-true (fit (readingOf (shownAt a r))) q) in
+      let z : d .no ≡ 0 = number ∙ first-append (pickRefusals page flags) (_ ∷ _ ∷ []) (pick-numbered page flags) ∙ rw (k, n, u) in
+      (z, shown-chosen z ∙ e)
 
   -- the pick that it is shown by is the one of demand 3: an answer set to which none is preferred, and the lowest-numbered of that kind
   pub shown-stands : flags < 2 ^ 16 → d .no ≡ 0
@@ -145,7 +125,7 @@ module _ (r : Readings) (page : List ℕ) (flags : ℕ) (d : Displayed) (says : 
 
   -- it is finite: neither an infinity nor a NaN is ever shown
   pub shown-finite : (x : Float) → readingOf (d .shown) ≡ some x → T (finite x)
-  unfolding fit
+  unfolding unfit fit
   shown-finite x e =
       true-yes (not-false (finite x) (sym (ap (λ (o : Option Float). not (fit o)) (shown-reading x e)) ∙ passed (shown-accepted x e) .2))
 
@@ -189,7 +169,7 @@ module _ (r s : Readings) (page : List ℕ) (flags : ℕ) where
   same-shown d e p q f g h = p ∙ go (noOutcome page flags) refl ∙ sym q
     where
       says : Shown → Displayed
-      says y = displayed (firstThat (pickRefusals page flags ++ (refuse 14 (noOutcome page flags) ∷ refuse 15 (not (fit (readingOf y))) ∷ []))) y
+      says y = displayed (firstThat (pickRefusals page flags ++ (refuse 14 (noOutcome page flags) ∷ refuse 15 (unfit y) ∷ []))) y
 
       go : (b : Bool) → noOutcome page flags ≡ b → displayed (displayNo r page flags) (shownBy r page flags) ≡ displayed (displayNo s page flags) (shownBy s page flags)
       go true t = blank r t ∙ sym (blank s t)

@@ -1,7 +1,7 @@
--- What the call answers at each of its four ends, by what it has found up to there: the pick's own refusal, 14, 15, or what is shown. The number is that
--- of the first refusal of the list. Assumes nothing.
+-- What the call answers at each of its ends, by what it has found up to there: the pick's own refusal; 14; else what the chosen outcome gives. The number is
+-- that of the first refusal of the list. Assumes nothing.
 use mathlib.Core.Path.{_≡_, sym, ap, _∙_}
-use mathlib.Core.Bool.{Bool, true, false, _||_, not, cond}
+use mathlib.Core.Bool.{true, false, _||_, not, cond}
 use mathlib.Core.List.{List, [], _∷_}
 use Prim.Native.Nat.{ℕ}
 use native.Mathlib.Omega.{arith}
@@ -17,10 +17,11 @@ use Rattle.engine.specs.Calls.{setOr, pickRefusals, pickNo, picked, PickSays}
 use Rattle.engine.specs.declared.pick.Picked.{Picked}
 use Rattle.engine.proofs.Refused.{refused-first, refused-later}
 use Rattle.engine.proofs.Given.{where-accepted}
-use Rattle.display.specs.Shows.{oneChosen, readingOf, shownAt, fit, pickSet, noOutcome, shownBy, displayRefusals, displayNo, displayed, DisplaySays}
+use Rattle.display.specs.Shows.{oneChosen, shownAt, unfit, fitNo, pickSet, noOutcome, shownBy, displayRefusals, displayNo, displayed, DisplaySays}
 use Rattle.display.specs.declared.Readings.{Readings}
 use Rattle.display.specs.declared.Shown.{Shown}
 use Rattle.display.specs.declared.Shown.the-variants.{NoNumber}
+use Rattle.display.specs.declared.Displayed.{Displayed}
 use Rattle.display.proofs.OneOutcome.{how-many-chosen, lowest-chosen}
 
 pub pick-numbered : (page : List ℕ) (flags : ℕ) → T (numbered (pickRefusals page flags))
@@ -39,9 +40,9 @@ module _ (r : Readings) (page : List ℕ) (flags : ℕ) (p : Picked) (says : Pic
 
   -- where the pick is accepted, two more conditions decide
   unfoldable late : List Refusal
-  late = refuse 14 (noOutcome page flags) ∷ refuse 15 (not (fit (readingOf (shownBy r page flags)))) ∷ []
+  late = refuse 14 (noOutcome page flags) ∷ refuse 15 (unfit (shownBy r page flags)) ∷ []
 
-  later : p .no ≡ 0 → displayNo r page flags ≡ cond (noOutcome page flags) 14 (cond (not (fit (readingOf (shownBy r page flags)))) 15 0)
+  later : p .no ≡ 0 → displayNo r page flags ≡ cond (noOutcome page flags) 14 (cond (unfit (shownBy r page flags)) 15 0)
   unfolding displayNo displayRefusals late pickNo firstThat
   later z = refused-later (pickRefusals page flags) late (pick-numbered page flags) (p .no) number z
 
@@ -62,15 +63,9 @@ module _ (r : Readings) (page : List ℕ) (flags : ℕ) (p : Picked) (says : Pic
     pub by-outcome : (ltb a 4 || not (eqb n 1)) ≡ true → DisplaySays r page flags (record { no = 14; shown = NoNumber })
     by-outcome t = refused 14 (λ e. omega arith) (sym (later z ∙ rw (no-outcome, t)))
 
-    -- l is the lowest of the four, s what is shown, f whether it can be
-    module _ (t : (ltb a 4 || not (eqb n 1)) ≡ false) (l : ℕ) (is-lowest : l ≡ lowest v) (s : Shown) (is-shown : s ≡ shownAt l r) (f : Bool) (is-fit : f ≡ fit (readingOf s)) where
-      shown : s ≡ shownBy r page flags
-      unfolding shownBy
-      shown = rw (is-shown, is-lowest, is-part, lowest-chosen (p .set), set-picked z)
-
-      pub by-reading : f ≡ false → DisplaySays r page flags (record { no = 15; shown = NoNumber })
-      by-reading u = refused 15 (λ e. omega arith) (sym (later z ∙ rw (no-outcome, t, ← shown, ← is-fit, u)))
-
-      pub by-pick-shown : f ≡ true → DisplaySays r page flags (record { no = 0; shown = s })
-      unfolding displayed
-      by-pick-shown u = rw (later z, no-outcome, t, ← shown, ← is-fit, u)
+    -- l is the lowest of the four, s what is shown
+    pub by-reading : (ltb a 4 || not (eqb n 1)) ≡ false → (l : ℕ) → l ≡ lowest v → (s : Shown) → s ≡ shownAt l r → (d : Displayed) → d ≡ displayed (fitNo s) s → DisplaySays r page flags d
+    unfolding shownBy fitNo firstThat
+    by-reading t l is-lowest s is-shown d is-fitted =
+        let e : s ≡ shownBy r page flags = rw (is-shown, is-lowest, is-part, lowest-chosen (p .set), set-picked z) in
+        is-fitted ∙ ap (λ (y : Shown). displayed (fitNo y) y) e ∙ ap (λ (m : ℕ). displayed m (shownBy r page flags)) (sym (later z ∙ rw (no-outcome, t)))

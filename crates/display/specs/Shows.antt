@@ -1,6 +1,6 @@
 -- What stands on the display. Atoms 0 to 3 are the outcomes live, second, held and none.
 use mathlib.Core.Path.{_≡_}
-use mathlib.Core.Bool.{Bool, true, false, _||_, not, cond}
+use mathlib.Core.Bool.{Bool, true, _||_, not, cond}
 use mathlib.Core.List.{List, [], _∷_, _++_}
 use mathlib.Core.Option.{Option, some, none}
 use Prim.Native.Nat.{ℕ, zero, suc}
@@ -34,7 +34,7 @@ firstOf [] = 16
 firstOf (a ∷ l) = a
 
 -- ---- what it shows
--- each case of what is shown has these values: its outcome, and the number that stands there
+-- each case of what is shown says this: which outcome, by its atom, and which reading
 unfoldable pub outcomeOf : Shown → ℕ
 outcomeOf (Live x) = 0
 outcomeOf (Second x) = 1
@@ -47,7 +47,7 @@ readingOf (Second x) = some x
 readingOf (Held x) = some x
 readingOf NoNumber = none
 
--- as a plain reading: d where there is none
+-- the reading; d where there is none
 unfoldable pub readingOr : Float → Option Float → Float
 readingOr d none = d
 readingOr d (some x) = x
@@ -59,10 +59,17 @@ shownAt (suc zero) r = Second (r .second)
 shownAt (suc (suc zero)) r = Held (r .held)
 shownAt (suc (suc (suc n))) r = NoNumber
 
--- its number can stand on a display, where it has one
+-- it can stand on a display: a finite number, or none
 unfoldable pub fit : Option Float → Bool
 fit none = true
 fit (some x) = finite x
+
+-- 15: the chosen reading is infinite or not a number
+unfoldable pub unfit : Shown → Bool
+unfit s = not (fit (readingOf s))
+
+unfoldable pub fitNo : Shown → ℕ
+fitNo s = firstThat (refuse 15 (unfit s) ∷ [])
 
 -- ---- the call
 -- the set that is picked, read where the pick is accepted
@@ -77,10 +84,9 @@ noOutcome page flags = ltb (program page flags .atoms) 4 || not (oneChosen (pick
 unfoldable pub shownBy : Readings → List ℕ → ℕ → Shown
 shownBy r page flags = shownAt (firstOf (outcomes (pickSet page flags))) r
 
--- those of the pick, then 14, then 15: the chosen reading is infinite or not a number
+-- those of the pick, then 14, then 15
 unfoldable pub displayRefusals : Readings → List ℕ → ℕ → List Refusal
-displayRefusals r page flags =
-    pickRefusals page flags ++ (refuse 14 (noOutcome page flags) ∷ refuse 15 (not (fit (readingOf (shownBy r page flags)))) ∷ [])
+displayRefusals r page flags = pickRefusals page flags ++ (refuse 14 (noOutcome page flags) ∷ refuse 15 (unfit (shownBy r page flags)) ∷ [])
 
 unfoldable pub displayNo : Readings → List ℕ → ℕ → ℕ
 displayNo r page flags = firstThat (displayRefusals r page flags)

@@ -63,6 +63,19 @@ fn is_fit(shown: Shown) -> bool
     }
 }
 
+// Where one outcome is chosen: 15 if its reading is infinite or not a number, else what it shows.
+fn fitted(shown: Shown) -> Displayed
+    ensures { λ r. ⌜ r ≡ means.displayed (means.fitNo shown) shown ⌝ }
+{
+    if is_fit(shown) {
+        return Displayed { no: 0, shown };
+    }
+    Displayed {
+        no: 15,
+        shown: Shown::NoNumber,
+    }
+}
+
 // The refusals of the pick, then 14 where the page has fewer than four atoms or the pick does not hold exactly one of the four, then 15 where the
 // chosen reading is infinite or not a number; else what the pick shows.
 pub fn display(readings: Readings, page: &[u8], flags: u16) -> Displayed
@@ -70,15 +83,17 @@ pub fn display(readings: Readings, page: &[u8], flags: u16) -> Displayed
 {
     let picked = engine::pick::pick(page, flags);
     if picked.no != 0 {
-        return Displayed { no: picked.no, shown: Shown::NoNumber };
+        return Displayed {
+            no: picked.no,
+            shown: Shown::NoNumber,
+        };
     }
     let outcomes = atoms::common(picked.set, 15);
     if (page::fields::atom_count(page) < 4) | (atoms::how_many(outcomes) != 1) {
-        return Displayed { no: 14, shown: Shown::NoNumber };
+        return Displayed {
+            no: 14,
+            shown: Shown::NoNumber,
+        };
     }
-    let shown = shown_at(atoms::lowest(outcomes), readings);
-    if !is_fit(shown) {
-        return Displayed { no: 15, shown: Shown::NoNumber };
-    }
-    Displayed { no: 0, shown }
+    fitted(shown_at(atoms::lowest(outcomes), readings))
 }

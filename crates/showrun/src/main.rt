@@ -3,10 +3,10 @@
 ghost use mathlib.Core.Path.{_≡_};
 ghost use Rattle.showrun.specs.Hex as hex;
 ghost use Rattle.showrun.specs.Input as means;
-use display::reading;
 use display::Displayed;
 use display::Readings;
 use display::Shown;
+use display::reading;
 use libc::STDIN_FILENO;
 use libc::STDOUT_FILENO;
 use page::fields;
@@ -75,7 +75,10 @@ fn said(input: &[u8]) -> Displayed
     ensures { λ r. ⌜ r ≡ means.saidOf (now (input .entry)) ⌝ }
 {
     if input.len() < 14 {
-        return Displayed { no: 1, shown: Shown::NoNumber };
+        return Displayed {
+            no: 1,
+            shown: Shown::NoNumber,
+        };
     }
     let live = reading_at(input, 0, 2);
     let second = reading_at(input, 4, 6);

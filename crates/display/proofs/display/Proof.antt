@@ -1,7 +1,6 @@
 -- `display::display` asks one refusal after the other and then shows. Assumes nothing.
 use denote.Ref.{now}
-use borrow.Author.Tests.{not-true, not-false}
-use Rattle.display.proofs.Turns.{by-pick, by-outcome, by-reading, by-pick-shown}
+use Rattle.display.proofs.Turns.{by-pick, by-outcome, by-reading}
 use borrow.Author.Needs.{needs}
 use Rattle.display.proofs.display.Statement.{statement}
 use Rattle.display.proofs.display.Tie as tie
@@ -41,40 +40,23 @@ lowest-requires c κs = search needs
 shown-at-requires : tie.Need-shown-at-requires
 shown-at-requires c κs = search needs
 
-is-fit-requires : tie.Need-is-fit-requires
-is-fit-requires c κs = search needs
+fitted-requires : tie.Need-fitted-requires
+fitted-requires c κs = search needs
 
 returns-3 : tie.Need-returns-3
 returns-3 c =
-    let i = c .before in
-    let s = i .before in
+    let s = c .before in
     let l = s .before in
-    let e2 = l .before in
-    let h = e2 .before in
+    let o = l .before in
+    let h = o .before in
     let n = h .before in
     let m = n .before in
     let e = m .before in
     let k = e .before .before in
     let a = k .before .before .args in
     by-reading (a .readings) (now (a .page)) (a .flags) (k .pick .result) (k .pick .ensures) (e .if1 .left) (m .common .result) (n .atom-count .result) (h .how-many .result)
-    (m .common .ensures) (n .atom-count .ensures) (h .how-many .ensures) 
-    (e2 .if2 .left) (l .lowest .result) (l .lowest .ensures) (s .shown-at .result) (s .shown-at .ensures) (i .is-fit .result) (i .is-fit .ensures) (not-true (i .is-fit .result) (c .if3 .taken))
-
-returns-4 : tie.Need-returns-4
-returns-4 c =
-    let i = c .before in
-    let s = i .before in
-    let l = s .before in
-    let e2 = l .before in
-    let h = e2 .before in
-    let n = h .before in
-    let m = n .before in
-    let e = m .before in
-    let k = e .before .before in
-    let a = k .before .before .args in
-    by-pick-shown (a .readings) (now (a .page)) (a .flags) (k .pick .result) (k .pick .ensures) (e .if1 .left) (m .common .result) (n .atom-count .result) (h .how-many .result)
-    (m .common .ensures) (n .atom-count .ensures) (h .how-many .ensures) 
-    (e2 .if2 .left) (l .lowest .result) (l .lowest .ensures) (s .shown-at .result) (s .shown-at .ensures) (i .is-fit .result) (i .is-fit .ensures) (not-false (i .is-fit .result) (c .if3 .left))
+    (m .common .ensures) (n .atom-count .ensures) (h .how-many .ensures) (o .if2 .left) (l .lowest .result) (l .lowest .ensures) (s .shown-at .result) (s .shown-at .ensures)
+    (c .fitted .result) (c .fitted .ensures)
 
 pub display-spec : {M : Type 1} → statement M
 display-spec =
@@ -88,6 +70,5 @@ display-spec =
     returns-2
     lowest-requires
     shown-at-requires
-    is-fit-requires
-    returns-3
-    returns-4)
+    fitted-requires
+    returns-3)

@@ -1,5 +1,4 @@
 -- `display::is_fit`, case by case. Assumes nothing.
-use mathlib.Core.Path.{_∙_, sym, ap}
 use Rattle.display.specs.Shows.{fit, readingOf}
 use borrow.Author.Needs.{needs}
 use Rattle.display.proofs.is_fit.Statement.{statement}
