@@ -81,18 +81,19 @@ fn fitted(shown: Shown) -> Displayed
 pub fn display(readings: Readings, page: &[u8], flags: u16) -> Displayed
     ensures { λ r. ⌜ means.DisplaySays readings (now (page .entry)) flags r ⌝ }
 {
+    let blank = Shown::NoNumber;
     let picked = engine::pick::pick(page, flags);
     if picked.no != 0 {
         return Displayed {
             no: picked.no,
-            shown: Shown::NoNumber,
+            shown: blank,
         };
     }
     let outcomes = atoms::common(picked.set, 15);
     if (page::fields::atom_count(page) < 4) | (atoms::how_many(outcomes) != 1) {
         return Displayed {
             no: 14,
-            shown: Shown::NoNumber,
+            shown: blank,
         };
     }
     fitted(shown_at(atoms::lowest(outcomes), readings))
