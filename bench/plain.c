@@ -463,6 +463,28 @@ uint32_t plain_compare(const uint8_t *page, size_t length, uint16_t flags, uint1
     return PIPEOTTER_NEITHER;
 }
 
+/* What is shown, and a NaN for the reading where none is. */
+static uint64_t blank(uint32_t answer) { return (uint64_t)answer << 32 | 0x7fc00000; }
+
+static uint32_t bits_of(float reading) {
+    union {
+        float reading;
+        uint32_t bits;
+    } both = {reading};
+    return both.bits;
+}
+
+uint64_t plain_display(float live, float second, float held, const uint8_t *page, size_t length, uint16_t flags) {
+    const float readings[3] = {live, second, held};
+    uint32_t pick = plain_pick(page, length, flags), four = pick & 15;
+    if (pick >> 16) return blank(pick);
+    if (field(page, 2) < 4 || four == 0 || four & (four - 1)) return blank(refused(14));
+    if (four == 8) return blank(PIPEOTTER_SHOWS_NO_NUMBER);
+    uint32_t chosen = four >> 1, bits = bits_of(readings[chosen]);
+    if ((bits & 0x7f800000) == 0x7f800000) return blank(refused(15));
+    return (uint64_t)(chosen + PIPEOTTER_SHOWS_LIVE) << 32 | bits;
+}
+
 uint8_t plain_letter(uint16_t number) {
     if (number >= 1 && number <= 8) return 'P';
     if (number == 9 || number == 11 || number == 12) return 'C';

@@ -11,5 +11,6 @@ uint32_t plain_list(const uint8_t *page, size_t length, uint16_t flags, uint16_t
 uint32_t plain_best(const uint8_t *page, size_t length, uint16_t flags, uint16_t *sets, size_t room);
 uint32_t plain_degrees(const uint8_t *page, size_t length, uint16_t flags, uint16_t set, uint8_t *degrees, size_t room);
 uint32_t plain_compare(const uint8_t *page, size_t length, uint16_t flags, uint16_t first, uint16_t second);
+uint64_t plain_display(float live, float second, float held, const uint8_t *page, size_t length, uint16_t flags);
 uint8_t plain_letter(uint16_t number);
 #endif

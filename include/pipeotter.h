@@ -11,7 +11,7 @@
 
    What a call returns
      65,536 times the refusal number, plus the value. PIPEOTTER_NUMBER and PIPEOTTER_VALUE take them apart.
-     The letter alone is a plain byte.
+     The letter alone is a plain byte. The display returns such a word in its upper half, and a reading's bits in its lower.
      Number 0 is "accepted". Look at the number first: the value 0 is also a good value (the empty set, a count of 0).
      Where several refusals hold, the lowest number of the call's own list is returned. Each number is returned
      exactly when its condition holds, so it can be relied on as a diagnosis.
@@ -42,6 +42,7 @@
 typedef __UINT8_TYPE__ uint8_t;
 typedef __UINT16_TYPE__ uint16_t;
 typedef __UINT32_TYPE__ uint32_t;
+typedef __UINT64_TYPE__ uint64_t;
 typedef __SIZE_TYPE__ size_t;
 #endif
 
@@ -49,7 +50,8 @@ typedef __SIZE_TYPE__ size_t;
 extern "C" {
 #endif
 
-/* The refusal numbers. 1 to 8 are faults of the page, 9, 11 and 12 faults of the call, 10 and 13 findings. */
+/* The refusal numbers. 1 to 8 are faults of the page, 9, 11 and 12 faults of the call, 10 and 13 findings; 14 and 15 are
+   the display's. */
 enum {
     PIPEOTTER_ACCEPTED = 0,
     PIPEOTTER_SHORT_PAGE = 1,      /* the page has fewer than 18 bytes */
@@ -64,7 +66,9 @@ enum {
     PIPEOTTER_NO_ANSWER_SET = 10,  /* no set is allowed: there is nothing to pick */
     PIPEOTTER_SHORT_ROOM = 11,     /* the lent slice is too short for the whole result */
     PIPEOTTER_TOO_MANY_SPLITS = 12,/* the page has more than 4,096 split programs */
-    PIPEOTTER_NOT_ANSWER_SET = 13  /* a given set is not an answer set */
+    PIPEOTTER_NOT_ANSWER_SET = 13, /* a given set is not an answer set */
+    PIPEOTTER_NO_OUTCOME = 14,     /* the page has fewer than four atoms, or the pick not exactly one of atoms 0 to 3 */
+    PIPEOTTER_BAD_READING = 15     /* the chosen reading is infinite or not a number */
 };
 
 /* The two halves of what a call returns. */
@@ -80,6 +84,12 @@ enum {
 #define PIPEOTTER_NEITHER 0
 #define PIPEOTTER_FIRST 1
 #define PIPEOTTER_SECOND 2
+
+/* What pipeotter_display answers. */
+#define PIPEOTTER_SHOWS_NO_NUMBER 0
+#define PIPEOTTER_SHOWS_LIVE 1
+#define PIPEOTTER_SHOWS_SECOND 2
+#define PIPEOTTER_SHOWS_HELD 3
 
 /* The set to act on: the lowest-numbered best set.
    Value: the set. 0 with number 0 is the empty set, a good pick.
@@ -113,6 +123,29 @@ uint32_t pipeotter_degrees(const uint8_t *page, size_t length, uint16_t flags, u
    Value: PIPEOTTER_FIRST, PIPEOTTER_SECOND, or PIPEOTTER_NEITHER (also for equal sets).
    Refusals, in order: 1 to 8, 9 (flags, first or second), 13 (either set). */
 uint32_t pipeotter_compare(const uint8_t *page, size_t length, uint16_t flags, uint16_t first, uint16_t second);
+
+/* What a display shows of three readings. On its pages atom 0 is live, 1 second, 2 held and 3 none; where the pick holds
+   exactly one of these, that one is shown, with its reading. "None" is shown as no number, and is not a refusal.
+   PIPEOTTER_SHOWN gives the word of number and value. Value: PIPEOTTER_SHOWS_LIVE, _SECOND, _HELD or _NO_NUMBER. With
+   every refusal the value is PIPEOTTER_SHOWS_NO_NUMBER.
+   PIPEOTTER_SHOWN_BITS gives the very bits of the chosen reading, and pipeotter_shown_reading the reading: never an
+   infinity or a NaN where one is shown. Where none is, it is a NaN, so that a caller who forgets to look at the value
+   cannot show a clean 0.
+   The readings that are not chosen change nothing, whatever they are.
+   Refusals, in order: 1 to 8, 9 (flags), 10, 14, 15. */
+uint64_t pipeotter_display(float live, float second, float held, const uint8_t *page, size_t length, uint16_t flags);
+
+#define PIPEOTTER_SHOWN(result) ((uint32_t)((uint64_t)(result) >> 32))
+#define PIPEOTTER_SHOWN_BITS(result) ((uint32_t)((uint64_t)(result) & 0xFFFFFFFFu))
+
+static inline float pipeotter_shown_reading(uint64_t result) {
+    uint32_t bits = PIPEOTTER_SHOWN_BITS(result);
+    float reading;
+    const unsigned char *from = (const unsigned char *)&bits;
+    unsigned char *to = (unsigned char *)&reading;
+    for (size_t i = 0; i < sizeof reading; i++) to[i] = from[i];
+    return reading;
+}
 
 /* The letter that a panel shows for a refusal number: 'P' page fault (1 to 8), 'C' call fault (9, 11, 12),
    'F' finding (10, 13), ' ' for 0 and every other number. Never refused. */

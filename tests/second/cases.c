@@ -20,6 +20,26 @@ const Case cases[CASES] = {
     {2, "a;b<a", "", 0, "3 /3"}, /* needs a second round */
 };
 
+/* Live, second, held, none; then three causes that rule out the first three. */
+#define FILTER "abcd;<ae;<bf;<cg"
+
+const Case screens[SCREENS] = {
+    {7, FILTER, "", 0x00, "0 1"},
+    {7, FILTER, "", 0x10, "0 2"},
+    {7, FILTER, "", 0x30, "0 3"},
+    {7, FILTER, "", 0x70, "0 0"},            /* none: no number, and no refusal */
+    {7, FILTER, "", 0x08, "14 0"},           /* none is raised, and live stands beside it */
+    {16, "a;p", "", 0, "0 1"},               /* atoms above the four do not count */
+    {4, "a", "", 0, "0 1"},                  /* four atoms are enough */
+    {3, "a", "", 0, "14 0"},                 /* three are not, though the pick holds one outcome alone */
+    {4, "", "", 0, "14 0"},                  /* the empty pick */
+    {5, "e", "", 0, "14 0"},                 /* none of the four */
+    {4, "a;b", "", 0, "14 0"},               /* two of them */
+    {4, "b;d", "", 0, "14 0"},               /* two, one of which is none */
+    {4, "a;b;c;d", "", 0, "14 0"},           /* all four */
+    {3, "a<-a", "", 0, "10 0"},              /* no answer set comes before too few atoms */
+};
+
 static void put_field(Page *page, size_t at, size_t value) {
     page->byte[at] = (uint8_t)value;
     page->byte[at + 1] = (uint8_t)(value >> 8);

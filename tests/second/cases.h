@@ -13,5 +13,9 @@ typedef struct {
 
 enum { CASES = 16 };
 extern const Case cases[CASES];
+
+/* Pages for the display: here `sets` is the number and the value that ordinary readings get. */
+enum { SCREENS = 14 };
+extern const Case screens[SCREENS];
 void case_page(Page *page, const Case *c);
 #endif

@@ -29,7 +29,7 @@ static struct {
     long wrong;
 } page;
 
-static long calls, shown, picks_left_out, bests_left_out, refusals[14], sets_seen;
+static long calls, shown, shown_as[4], picks_left_out, bests_left_out, refusals[16], sets_seen;
 
 /* ---- reports ---- */
 
@@ -100,6 +100,40 @@ static void ask_pick(void) {
 static void ask_compare(uint16_t first, uint16_t second) {
     Answer want = second_compare(&solved, first, second);
     compare_result("compare", pipeotter_compare(page.lent, page.length, page.flags, first, second), want, first, second, 0);
+}
+
+/* Readings of every kind, by their bits: ordinary ones of both signs, the zeros, the smallest and the largest subnormal,
+   the smallest and the largest normal, infinities, and NaNs quiet and signalling. */
+enum { KINDS = 14 };
+static const uint32_t kinds[KINDS] = {0x3da3d70a, 0xc1200000, 0x00000000, 0x80000000, 0x00000001, 0x807fffff, 0x00800000,
+                                      0x7f7fffff, 0xff7fffff, 0x7f800000, 0xff800000, 0x7fc00000, 0x7f800001, 0xffffffff};
+
+static float reading_of(uint32_t bits) {
+    float reading;
+    memcpy(&reading, &bits, sizeof reading);
+    return reading;
+}
+
+static void ask_display(const uint32_t *readings) {
+    Screen want = second_display(&solved, readings);
+    uint64_t got = pipeotter_display(reading_of(readings[0]), reading_of(readings[1]), reading_of(readings[2]), page.lent, page.length, page.flags);
+    calls++;
+    refusals[want.answer.number]++;
+    shown_as[want.answer.number ? PIPEOTTER_SHOWS_NO_NUMBER : want.answer.value]++;
+    if (got != ((uint64_t)(want.answer.number * 65536 + want.answer.value) << 32 | want.bits) && disagrees("display"))
+        printf(", readings 0x%08x 0x%08x 0x%08x\n  engine: number %u value %u bits 0x%08x; second solver: number %u value %u bits 0x%08x\n",
+               readings[0], readings[1], readings[2], PIPEOTTER_NUMBER(PIPEOTTER_SHOWN(got)), PIPEOTTER_VALUE(PIPEOTTER_SHOWN(got)),
+               PIPEOTTER_SHOWN_BITS(got), want.answer.number, want.answer.value, want.bits);
+    check_page_memory("display");
+}
+
+/* Readings of any kinds. */
+static void ask_displays(int times) {
+    for (int i = 0; i < times; i++) {
+        uint32_t readings[3];
+        for (int k = 0; k < 3; k++) readings[k] = one_in(&rng, 3) ? random_below(&rng, 0xFFFFFFFF) : kinds[random_below(&rng, KINDS)];
+        ask_display(readings);
+    }
 }
 
 /* What stands in a lent entry before the call: it differs from place to place and from call to call. */
@@ -192,7 +226,7 @@ static void ask_about_set(uint16_t set) {
     long rules = solved.rules + 1, parts = 1L << __builtin_popcount(set);
     ask_test("reduct_test", pipeotter_reduct_test, set, second_test(&solved, set));
     if (affordable(parts * rules, 20000)) ask_test("here_there_test", pipeotter_here_there_test, set, second_test(&solved, set));
-    if (solved.split_number > 4096 || affordable(solved.split_number * rules, 3000))
+    if (solved.split_number > 4096 || page.number <= CASES + HAND_MADE || affordable(solved.split_number * rules, 3000))
         ask_test("split_test", pipeotter_split_test, set, second_split(&solved, set));
 }
 
@@ -261,7 +295,10 @@ static void ask_lists(void) {
     if (bests > TOO_DEAR) bests_left_out++;
     else ask_in_rooms("best", pipeotter_best, solved.best, (size_t)solved.bests, second_best, bests > DEAR);
     if (bests > TOO_DEAR && climb(0, TOO_DEAR) > TOO_DEAR) picks_left_out++;
-    else ask_pick();
+    else {
+        ask_pick();
+        ask_displays(bests > DEAR ? 1 : 4);
+    }
 }
 
 /* A refused page or flag word: every call is asked, with rooms that would and would not do. */
@@ -277,6 +314,7 @@ static void ask_refused(void) {
         ask_list("best", pipeotter_best, solved.best, i ? 100 : 0, second_best(&solved, i ? 100 : 0));
     }
     ask_pick();
+    ask_displays(2);
 }
 
 static void ask_all(uint16_t flags) {
@@ -336,6 +374,28 @@ static void try_case(const Case *c) {
     if (!right && disagrees("none")) printf("\n  the second solver does not find the sets and pick of the document: %s\n", c->sets);
 }
 
+/* A page made for the display, whose number and value are known: all kinds of the three readings, one with another. Of the
+   readings that are not chosen each kind is met beside each kind of the chosen one. */
+static void try_screen(const Case *c) {
+    Page made;
+    char *end;
+    case_page(&made, c);
+    page.number++;
+    page.wrong = 0;
+    lend_page(made.byte, made.length);
+    page.flags = c->flags;
+    second_solve(&solved, page.copy, page.length, page.flags);
+    static const uint32_t plain[3] = {0x3f800000, 0x40000000, 0x40400000};
+    Screen want = second_display(&solved, plain);
+    unsigned long number = strtoul(c->sets, &end, 10), value = strtoul(end + 1, 0, 10);
+    if ((want.answer.number != number || want.answer.value != value) && disagrees("none"))
+        printf("\n  the second solver does not show what is known: %s\n", c->sets);
+    for (int i = 0; i < KINDS * KINDS * KINDS; i++) {
+        uint32_t readings[3] = {kinds[i % KINDS], kinds[i / KINDS % KINDS], kinds[i / KINDS / KINDS]};
+        ask_display(readings);
+    }
+}
+
 /* Lent 65,536 bytes more than the page has: 16 bits of its length are right, and it must be refused all the same. */
 static void try_too_long(const Page *made) {
     static uint8_t memory[65536 + sizeof made->byte];
@@ -362,6 +422,11 @@ int main(int words, char **word) {
     }
     rng.state = seed;
     *(letters_differ() ? &failed : &passed) += 1;
+    for (int i = 0; i < SCREENS; i++) {
+        try_screen(&screens[i]);
+        *(page.wrong ? &failed : &passed) += 1;
+    }
+    page.number = 0;
     for (unsigned long i = 0; i < CASES + HAND_MADE + count && failed < stop; i++) {
         if (i < CASES) try_case(&cases[i]);
         else if (i < CASES + HAND_MADE) {
@@ -376,10 +441,11 @@ int main(int words, char **word) {
         *(page.wrong ? &failed : &passed) += 1;
     }
     if (failed >= stop) printf("stopped at page %ld\n", page.number);
-    printf("seed %lu: the letters, %d pages with known results, %d made by hand, %lu generated; %ld calls compared, %ld answer sets listed\n",
-           seed, CASES, HAND_MADE, count, calls, sets_seen);
+    printf("seed %lu: the letters, %d pages for the display, %d with known results, %d made by hand, %lu generated; %ld calls compared, %ld answer sets listed\n",
+           seed, SCREENS, CASES, HAND_MADE, count, calls, sets_seen);
     printf("answers by number:");
-    for (int n = 0; n < 14; n++) printf(" %d:%ld", n, refusals[n]);
+    for (int n = 0; n < 16; n++) printf(" %d:%ld", n, refusals[n]);
+    printf("\ndisplays: no number %ld, live %ld, second %ld, held %ld", shown_as[0], shown_as[1], shown_as[2], shown_as[3]);
     printf("\nnot asked, being too dear: best %ld times, pick %ld times\n%ld passed, %ld failed\n", bests_left_out, picks_left_out, passed, failed);
     fflush(0);
     return failed != 0;

@@ -442,7 +442,7 @@ void second_solve(Solved *s, const uint8_t *page, size_t length, uint16_t flags)
 
 /* ---- the calls: each has its refusals as a list, in order ---- */
 
-enum { MOST = 14 };
+enum { MOST = 16 };
 
 /* The first number of the list (ended by 0) whose condition holds; 0 where none does. */
 static unsigned first_refusal(const Solved *s, const int *order, const int *holds) {
@@ -506,7 +506,24 @@ Answer second_compare(const Solved *s, uint16_t first, uint16_t second) {
     return answer(0, is_preferred(&one, &other) ? 1 : is_preferred(&other, &one) ? 2 : 0);
 }
 
+/* Of the four outcomes the pick has to hold one. The exponent tells an infinity or a NaN from a number. */
+Screen second_display(const Solved *s, const uint32_t *readings) {
+    static const int order[] = {9, 10, 14, 15, 0};
+    Answer picked = second_pick(s);
+    int chosen = -1, outcomes = 0;
+    for (int atom = 0; atom < 4; atom++)
+        if (picked.value >> atom & 1) chosen = atom, outcomes++;
+    int has_reading = chosen >= 0 && chosen < 3;
+    int holds[MOST] = {[9] = s->flags_fault,
+                       [10] = s->sets == 0,
+                       [14] = s->atoms < 4 || outcomes != 1,
+                       [15] = has_reading && (readings[chosen] >> 23 & 255) == 255};
+    Screen screen = {answer(first_refusal(s, order, holds), has_reading ? (unsigned)chosen + 1 : 0), 0x7fc00000};
+    if (screen.answer.value) screen.bits = readings[chosen];
+    return screen;
+}
+
 int second_prefers(const Solved *s, int m, int n) { return is_preferred(&s->ranked[m], &s->ranked[n]); }
 
 /* As the requirements list them: a string with the letter of each number, a blank for all others. */
-uint8_t second_letter(uint16_t number) { return number < MOST ? (uint8_t)" PPPPPPPPCFCCF"[number] : ' '; }
+uint8_t second_letter(uint16_t number) { return number < 14 ? (uint8_t)" PPPPPPPPCFCCF"[number] : ' '; }

@@ -8,6 +8,12 @@ typedef struct {
     unsigned number, value;
 } Answer;
 
+/* What a display should show: the answer, and the bits of its reading, those of a NaN where there is none. */
+typedef struct {
+    Answer answer;
+    uint32_t bits;
+} Screen;
+
 /* A rule of a program. Bodies and heads as lists of atoms, and the bodies as words too. */
 typedef struct {
     int heads, head[6];
@@ -51,5 +57,6 @@ Answer second_best(const Solved *s, size_t room);
 Answer second_degrees(const Solved *s, uint16_t set, size_t room, uint8_t *degrees);
 Answer second_compare(const Solved *s, uint16_t first, uint16_t second);
 int second_prefers(const Solved *s, int m, int n); /* set[m] is preferred to set[n] */
+Screen second_display(const Solved *s, const uint32_t *readings); /* the bits of live, second and held */
 uint8_t second_letter(uint16_t number);
 #endif

@@ -23,4 +23,7 @@ uint32_t pipeotter_degrees(const uint8_t *page, size_t length, uint16_t flags, u
 uint32_t pipeotter_compare(const uint8_t *page, size_t length, uint16_t flags, uint16_t first, uint16_t second) {
     return plain_compare(page, length, flags, first, second);
 }
+uint64_t pipeotter_display(float live, float second, float held, const uint8_t *page, size_t length, uint16_t flags) {
+    return plain_display(live, second, held, page, length, flags);
+}
 uint8_t pipeotter_letter(uint16_t number) { return plain_letter(number); }
