@@ -65,6 +65,9 @@ pages = {
     "train": page_bytes(
         "live second held none bubble off".split(),
         ["live x second x held x none", "no head if live, bubble", "no head if second, off"]),
+    "display": page_bytes(
+        "live second held none bubble off stale".split(),
+        ["live x second x held x none", "no head if live, bubble", "no head if second, off", "no head if held, stale"]),
     "two-trains": page_bytes(
         "live1 second1 held1 none1 live2 second2 held2 none2 bubble1 off1 bubble2 off2 washing aged blind call".split(),
         ["live1 x second1 x held1 x none1", "live2 x second2 x held2 x none2",

@@ -4,7 +4,9 @@ the lines that the engine's programs have to print are made by it.
 A set of atoms is a number, and bit i is atom i. A row is a triple of lists: head, positive body, negative body.
 """
 import itertools
+import math
 import struct
+import sys
 
 
 class Page:
@@ -179,11 +181,16 @@ def letter(number):
     return "P" if 1 <= number <= 8 else "C" if number in (9, 11, 12) else "F" if number in (10, 13) else " "
 
 
-def printed(data, flags):
-    """What the program pagerun prints of a page and a flag word."""
+def solved(data, flags):
+    """The page, the number that it and the flag word get, and where that is 0 the answer sets."""
     page = Page(data)
     number = page.number or (9 if page.out(flags) else 0)
-    sets = answers(page, flags) if number == 0 else []
+    return page, number, answers(page, flags) if number == 0 else []
+
+
+def printed(data, flags):
+    """What the program pagerun prints of a page and a flag word."""
+    page, number, sets = solved(data, flags)
     if number == 0 and len(sets) > 32768:
         number = 11
     if number:
@@ -198,7 +205,31 @@ def printed(data, flags):
     return "\n".join(lines) + "\n"
 
 
+def display(data, flags, readings):
+    """What the program showrun prints of three readings, which are given by their bits."""
+    page, number, sets = solved(data, flags)
+    if number == 0 and not sets:
+        number = 10
+    if number:
+        return f"refused {number}\n"
+    outcomes = [atom for atom in atoms_of(best(page, flags, sets)[0]) if atom < 4]
+    if page.atoms < 4 or len(outcomes) != 1:
+        return "refused 14\n"
+    if outcomes == [3]:
+        return "no number\n"
+    bits = readings[outcomes[0]]
+    if not math.isfinite(struct.unpack("<f", struct.pack("<I", bits))[0]):
+        return "refused 15\n"
+    return f"{('live', 'second', 'held')[outcomes[0]]} {bits:08x}\n"
+
+
+def main(name, flags, *readings):
+    """A page file and a flag word, and for the display the bits of three readings."""
+    with open(name, "rb") as file:
+        data = file.read()
+    flags = int(flags, 0)
+    sys.stdout.write(display(data, flags, [int(bits, 0) for bits in readings]) if readings else printed(data, flags))
+
+
 if __name__ == "__main__":
-    import sys
-    with open(sys.argv[1], "rb") as file:
-        sys.stdout.write(printed(file.read(), int(sys.argv[2], 0)))
+    main(*sys.argv[1:])

@@ -1,0 +1,132 @@
+# Sourced by run: what ./pagerun prints of each example, and its exit status; refused pages in words; bad usage; files of every length; and the
+# program behind it on inputs that the front never gives.
+me=pagerun
+
+# shows PAGE FLAGS STATUS: the lines of the definitions, after which only a refusal's words may stand, and this status
+shows() {
+    front "$1" "$2"
+    python3 tests/known/meaning.py "$1" "$2" >"$made/want"
+    lines=$(wc -l <"$made/want")
+    head -n "$lines" "$made/out" | cmp -s - "$made/want" && [ "$(wc -l <"$made/out")" -eq $((lines + $3)) ] &&
+        [ "$status" -eq "$3" ] && [ ! -s "$made/err" ]
+    verdict "$1 with flags $2"
+}
+
+front examples/two.page
+printf 'sets 2\nset 1 degrees 1 best\nset 2 degrees 2\npick 1\n' | cmp -s - "$made/out" && [ "$status" -eq 0 ]
+verdict 'the four lines of the first known page, nothing raised'
+
+shows examples/train.page 0 0
+shows examples/train.page 16 0
+shows examples/train.page 0x30 0
+shows examples/two-trains.page 0 0
+shows examples/two-trains.page 0x0500 0
+shows examples/two-trains.page 0x1000 0
+shows examples/car.page 0 0
+shows examples/never.page 0 1
+shows examples/tail.page 0 1
+shows examples/rings.page 0 1
+shows examples/wishes.page 0 0
+shows examples/longest.page 0 0
+shows examples/rivals.page 0x00ff 0 # with eight of the eleven valves open: the whole page takes a while
+
+front examples/train.page 16
+python3 tests/known/meaning.py examples/train.page 0 >"$made/want"
+! cmp -s "$made/out" "$made/want"
+verdict 'lines for other flags are seen to differ'
+
+page=examples/two.page
+# changed NAME OFFSET OCTAL: the page with another byte at a place
+changed() {
+    # shellcheck disable=SC2059
+    { head -c "$2" "$page" && printf "\\$3" && tail -c +$(($2 + 2)) "$page"; } >"$made/$1"
+}
+
+: >"$made/empty"
+head -c 17 "$page" >"$made/short"
+changed form 0 002
+changed atoms 2 021
+changed tall 18 007
+changed atom 23 002
+# longer PAGE LENGTH NAME: a page with zeros after it, up to this length
+longer() {
+    cat "$1" /dev/zero | head -c "$2" >"$made/$3"
+}
+longer "$page" 4094 long-4094
+longer "$page" 4095 long-4095
+longer "$page" 70000 long-70000
+longer "$made/form" 5000 long-form
+longer "$made/atoms" 5000 long-atoms
+# a row `a if c, b`, whose body falls; and no rows, with a pair of one atom
+printf '\001\0\003\0\001\0\003\0\0\0\022\0\026\0\031\0\031\0\001\002\0\0\0\002\001' >"$made/falls"
+printf '\001\0\003\0\0\0\0\0\001\0\022\0\022\0\022\0\024\0\001\001' >"$made/pair"
+
+refuses 1 'page fault' "$made/empty"
+refuses 1 'page fault' "$made/short"
+refuses 2 'page fault' "$made/form"
+refuses 3 'page fault' "$made/atoms"
+refuses 4 'page fault' examples/tail.page
+refuses 4 'page fault' "$made/long-4094"
+refuses 4 'page fault' "$made/long-4095"
+refuses 4 'page fault' "$made/long-70000"
+refuses 2 'page fault' "$made/long-form"
+refuses 3 'page fault' "$made/long-atoms"
+refuses 5 'page fault' "$made/tall"
+refuses 6 'page fault' "$made/atom"
+refuses 7 'page fault' "$made/falls"
+refuses 8 'page fault' "$made/pair"
+refuses 9 'call fault' examples/train.page 64
+refuses 10 finding examples/never.page
+refuses 11 'call fault' examples/rings.page
+
+unusable
+unusable examples/two.page 1 2
+unusable examples/two.page ''
+unusable examples/two.page -1
+unusable examples/two.page 12x
+unusable examples/two.page 0x
+unusable examples/two.page 0x1g
+unusable examples/two.page 65536
+unusable examples/two.page 0x10000
+unusable examples/two.page 99999999999999999999
+unusable examples/no-such.page
+unusable examples
+
+front --help
+[ "$status" -eq 0 ] && grep -q '^usage: ' "$made/out"
+verdict 'help'
+
+# decimal with zeros before it is decimal; a file's name may start with a dash; the front works from another folder
+front examples/train.page 0016
+[ "$status" -eq 0 ] && [ "$(tail -n 1 "$made/out")" = 'pick 18' ]
+verdict 'zeros before a number change nothing'
+cp examples/train.page "$made/-a page"
+(CDPATH='' cd -- "$made" && "$top/$me" '-a page' 0X10) >"$made/out" 2>"$made/err"
+status=$?
+[ "$status" -eq 0 ] && [ "$(tail -n 1 "$made/out")" = 'pick 18' ]
+verdict 'from another folder, with a name that starts with a dash'
+
+says 'no input' 'refused 1' </dev/null
+printf '\0' >"$made/one"
+says 'one byte' 'refused 1' <"$made/one"
+printf '\0\0' >"$made/flags"
+says 'a flag word without a page' 'refused 1' <"$made/flags"
+printf '\0\0\001\0\001\0\0\0\0\0\0\0\022\0\022\0\022\0\022\0' >"$made/bare"
+says 'a page without rows' 'sets 1
+set 0 degrees none best
+pick 0' <"$made/bare"
+{ printf '\0' && sleep 1 && printf '\0' && head -c 10 "$page" && sleep 1 && tail -c +11 "$page"; } | {
+    says 'an input that comes bit by bit' "$(cat crates/pagerun/stdout)"
+    echo "$passed $failed" >"$made/so-far"
+}
+read -r passed failed <"$made/so-far"
+
+# a planted difference: in a copy of the repository the program's stored output has another pick. What is proved is taken along.
+mkdir -p "$made/copy/target"
+cp -R crates.txt crates front.sh pagerun examples "$made/copy/"
+cp -R target/rlib target/stamp "$made/copy/target/"
+sed 's/pick 1/pick 2/' crates/pagerun/stdout >"$made/copy/crates/pagerun/stdout"
+(CDPATH='' cd -- "$made/copy" && ./pagerun examples/two.page) >"$made/out" 2>"$made/err"
+status=$?
+[ "$status" -eq 3 ] && [ ! -s "$made/out" ] && grep -q "rt: FAILED: pagerun" "$made/err"
+verdict 'a program that does not print its stored output is shown to fail, and is not used'
