@@ -22,15 +22,16 @@ typedef struct {
     uint32_t (*list)(const uint8_t *, size_t, uint16_t, uint16_t *, size_t);
     uint32_t (*best)(const uint8_t *, size_t, uint16_t, uint16_t *, size_t);
     uint32_t (*pick)(const uint8_t *, size_t, uint16_t);
+    uint64_t (*display)(float, float, float, const uint8_t *, size_t, uint16_t);
 } Solver;
-static const Solver solver[2] = {{pipeotter_reduct_test, pipeotter_list, pipeotter_best, pipeotter_pick},
-                                 {plain_reduct_test, plain_list, plain_best, plain_pick}};
+static const Solver solver[2] = {{pipeotter_reduct_test, pipeotter_list, pipeotter_best, pipeotter_pick, pipeotter_display},
+                                 {plain_reduct_test, plain_list, plain_best, plain_pick, plain_display}};
 
 static uint8_t page[2000];
 static size_t length;
 static uint16_t flags, sets[2][65536];
 
-enum { LIST, TEST, BEST, PICK, CALLS }; /* in this order: the tests take their sets from the list */
+enum { LIST, TEST, BEST, PICK, DISPLAY, CALLS }; /* in this order: the tests take their sets from the list */
 
 /* Tests 64 sets: answer sets spread over the list, which is asked first, and others. */
 static uint32_t listed;
@@ -43,13 +44,14 @@ static uint32_t tests(const Solver *s) {
     return sum;
 }
 
-static uint32_t call(int which, int what) {
+static uint64_t call(int which, int what) {
     const Solver *s = &solver[which];
     switch (what) {
     case TEST: return tests(s);
     case LIST: return s->list(page, length, flags, sets[which], 65536);
     case BEST: return s->best(page, length, flags, sets[which], 65536);
-    default: return s->pick(page, length, flags);
+    case PICK: return s->pick(page, length, flags);
+    default: return s->display(0.08f, 0.11f, 0.25f, page, length, flags);
     }
 }
 
@@ -59,7 +61,7 @@ static double now(void) {
     return (double)t.seconds + 1e-9 * (double)t.nanoseconds;
 }
 
-volatile uint32_t kept; /* the last answer, so that no call is left out */
+volatile uint64_t kept; /* the last answer, so that no call is left out */
 
 /* The time of one call, from `times` in a row. */
 static double timed(int which, int what, long times) {
@@ -72,7 +74,7 @@ static double timed(int which, int what, long times) {
    the cheaper they are; a call of a second or more has no further turn. Answers 0 where the answers differ. */
 static int measure(int what, double *least) {
     double start = now(), middle;
-    uint32_t answer = call(0, what), other;
+    uint64_t answer = call(0, what), other;
     middle = now();
     other = call(1, what);
     least[0] = middle - start;
@@ -104,7 +106,7 @@ static int load(const char *path) {
 
 int main(int words, char **word) {
     int differ = 0;
-    printf("| page | sets | test | list | best | pick | pick / list, engine | pick / list, plain C |\n|---|---|---|---|---|---|---|---|\n");
+    printf("| page | sets | test | list | best | pick | display | pick / list, engine | pick / list, plain C |\n|---|---|---|---|---|---|---|---|---|\n");
     for (int i = 1; i + 2 < words; i += 3) {
         double least[CALLS][2];
         flags = (uint16_t)strtoul(word[i + 2], 0, 0);
@@ -120,7 +122,7 @@ int main(int words, char **word) {
             differ = 1;
             continue;
         }
-        static const int column[CALLS] = {TEST, LIST, BEST, PICK};
+        static const int column[CALLS] = {TEST, LIST, BEST, PICK, DISPLAY};
         printf("| %s | %u |", word[i], listed);
         for (int c = 0; c < CALLS; c++) printf(" %.2f |", least[column[c]][0] / least[column[c]][1]);
         printf(" %.2f | %.2f |\n", least[PICK][0] / least[LIST][0], least[PICK][1] / least[LIST][1]);
