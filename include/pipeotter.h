@@ -26,6 +26,7 @@
        entries of 16 bits, `degrees` for `room` bytes. A null pointer is never good, not even with length or room 0:
        lend the address of any object instead
      - `sets` must be aligned as a uint16_t
+     - a `float` is single precision by IEEE 754, and is passed as x86-64 compilers for Linux pass one
      - a lent slice to write to must not overlap the page, and nobody else may write to either during the call
      - this header: nothing but the tests compares it with the proved code */
 #ifndef PIPEOTTER_H

@@ -12,11 +12,12 @@ use Rattle.lpod.specs.Lists.{every}
 use Rattle.lpod.specs.Best.{pick}
 use Rattle.page.specs.Fields.{atomCount}
 use Rattle.page.specs.Program.{program}
-use Rattle.page.specs.Refusals.{Refusal, refuse, firstThat, numbered, pageRefusals, flagRefusals}
+use Rattle.page.specs.Refusals.{Refusal, refuse, firstThat, numbered, flagRefusals}
+use Rattle.page.proofs.Refusals.{flag-numbered}
 use Rattle.engine.specs.Calls.{setOr, pickRefusals, pickNo, picked, PickSays}
 use Rattle.engine.specs.declared.pick.Picked.{Picked}
 use Rattle.engine.proofs.Refused.{refused-first, refused-later}
-use Rattle.engine.proofs.Given.{where-accepted}
+use Rattle.engine.proofs.Given.{numbered-append, where-accepted}
 use Rattle.display.specs.Shows.{oneChosen, shownAt, unfit, fitNo, pickSet, noOutcome, shownBy, displayRefusals, displayNo, displayed, DisplaySays}
 use Rattle.display.specs.declared.Readings.{Readings}
 use Rattle.display.specs.declared.Shown.{Shown}
@@ -24,9 +25,10 @@ use Rattle.display.specs.declared.Shown.the-variants.{NoNumber}
 use Rattle.display.specs.declared.Displayed.{Displayed}
 use Rattle.display.proofs.OneOutcome.{how-many-chosen, lowest-chosen}
 
+-- the pick's refusals have numbers above 0
 pub pick-numbered : (page : List ℕ) (flags : ℕ) → T (numbered (pickRefusals page flags))
-unfolding numbered every pageRefusals flagRefusals pickRefusals
-pick-numbered page flags = tt
+unfolding numbered every pickRefusals
+pick-numbered page flags = numbered-append (flagRefusals page flags) (_ ∷ []) (flag-numbered page flags) tt
 
 module _ (r : Readings) (page : List ℕ) (flags : ℕ) (p : Picked) (says : PickSays page flags p) where
   -- a number that refuses shows no number
