@@ -34,24 +34,6 @@ firstOf [] = 16
 firstOf (a ∷ l) = a
 
 -- ---- what it shows
--- each case of what is shown says this: which outcome, by its atom, and which reading
-unfoldable pub outcomeOf : Shown → ℕ
-outcomeOf (Live x) = 0
-outcomeOf (Second x) = 1
-outcomeOf (Held x) = 2
-outcomeOf NoNumber = 3
-
-unfoldable pub readingOf : Shown → Option Float
-readingOf (Live x) = some x
-readingOf (Second x) = some x
-readingOf (Held x) = some x
-readingOf NoNumber = none
-
--- the reading; d where there is none
-unfoldable pub readingOr : Float → Option Float → Float
-readingOr d none = d
-readingOr d (some x) = x
-
 -- an outcome with its reading; the last one has none
 unfoldable pub shownAt : ℕ → Readings → Shown
 shownAt zero r = Live (r .live)
@@ -59,34 +41,66 @@ shownAt (suc zero) r = Second (r .second)
 shownAt (suc (suc zero)) r = Held (r .held)
 shownAt (suc (suc (suc n))) r = NoNumber
 
--- it can stand on a display: a finite number, or none
+unfoldable pub shownOf : ℕ → Readings → Shown
+shownOf set r = shownAt (firstOf (outcomes set)) r
+
+-- the reading that a case shows; d where it shows none
+unfoldable pub readingOf : Shown → Option Float
+readingOf (Live x) = some x
+readingOf (Second x) = some x
+readingOf (Held x) = some x
+readingOf NoNumber = none
+
+unfoldable pub readingOr : Float → Option Float → Float
+readingOr d none = d
+readingOr d (some x) = x
+
+-- ---- what an answer says, case by case: its number; the outcome that is shown, by its atom, and none where the call is refused; the reading
+pub record Said : Type 0 where
+  pub number : ℕ
+  pub outcome : Option ℕ
+  pub reading : Option Float
+
+unfoldable pub outcomeOf : ℕ → Shown → Option ℕ
+outcomeOf n (Live x) = some 0
+outcomeOf n (Second x) = some 1
+outcomeOf n (Held x) = some 2
+outcomeOf zero NoNumber = some 3
+outcomeOf (suc n) NoNumber = none
+
+unfoldable pub said : Displayed → Said
+said d = record { number = d .no; outcome = outcomeOf (d .no) (d .shown); reading = readingOf (d .shown) }
+
+-- ---- the refusals of its own
+-- 14: fewer than four atoms, or not exactly one of the four
+unfoldable pub lacksOutcome : ℕ → ℕ → Bool
+lacksOutcome atoms set = ltb atoms 4 || not (oneChosen set)
+
+-- 15: the chosen reading is infinite or not a number
 unfoldable pub fit : Option Float → Bool
 fit none = true
 fit (some x) = finite x
 
--- 15: the chosen reading is infinite or not a number
 unfoldable pub unfit : Shown → Bool
 unfit s = not (fit (readingOf s))
 
 unfoldable pub fitNo : Shown → ℕ
 fitNo s = firstThat (refuse 15 (unfit s) ∷ [])
 
+unfoldable pub ownRefusals : ℕ → ℕ → Shown → List Refusal
+ownRefusals atoms set s = refuse 14 (lacksOutcome atoms set) ∷ refuse 15 (unfit s) ∷ []
+
 -- ---- the call
--- the set that is picked, read where the pick is accepted
+-- the set that is picked, read where the pick is accepted; what it shows, read where it holds exactly one of the four
 unfoldable pub pickSet : List ℕ → ℕ → ℕ
 pickSet page flags = setOr 0 (pick (program page flags))
 
--- 14: fewer than four atoms, or not exactly one of the four in the pick
-unfoldable pub noOutcome : List ℕ → ℕ → Bool
-noOutcome page flags = ltb (program page flags .atoms) 4 || not (oneChosen (pickSet page flags))
-
--- what the pick shows, read where it holds exactly one of the four
 unfoldable pub shownBy : Readings → List ℕ → ℕ → Shown
-shownBy r page flags = shownAt (firstOf (outcomes (pickSet page flags))) r
+shownBy r page flags = shownOf (pickSet page flags) r
 
--- those of the pick, then 14, then 15
+-- those of the pick, then its own
 unfoldable pub displayRefusals : Readings → List ℕ → ℕ → List Refusal
-displayRefusals r page flags = pickRefusals page flags ++ (refuse 14 (noOutcome page flags) ∷ refuse 15 (unfit (shownBy r page flags)) ∷ [])
+displayRefusals r page flags = pickRefusals page flags ++ ownRefusals (program page flags .atoms) (pickSet page flags) (shownBy r page flags)
 
 unfoldable pub displayNo : Readings → List ℕ → ℕ → ℕ
 displayNo r page flags = firstThat (displayRefusals r page flags)

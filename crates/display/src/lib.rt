@@ -76,6 +76,20 @@ fn fitted(shown: Shown) -> Displayed
     }
 }
 
+// A page of so many atoms whose pick is the set shows nothing: fewer than four, or not exactly one of the four in the set.
+fn lacks_outcome(count: u16, set: u16) -> bool
+    ensures { λ r. ⌜ r ≡ means.lacksOutcome count set ⌝ }
+{
+    (count < 4) | (atoms::how_many(atoms::common(set, 15)) != 1)
+}
+
+// The outcome that the set holds, with its reading; the lowest where it holds several.
+fn shown_of(set: u16, readings: Readings) -> Shown
+    ensures { λ r. ⌜ r ≡ means.shownOf set readings ⌝ }
+{
+    shown_at(atoms::lowest(atoms::common(set, 15)), readings)
+}
+
 // The refusals of the pick, then 14 where the page has fewer than four atoms or the pick does not hold exactly one of the four, then 15 where the
 // chosen reading is infinite or not a number; else what the pick shows.
 pub fn display(readings: Readings, page: &[u8], flags: u16) -> Displayed
@@ -89,12 +103,11 @@ pub fn display(readings: Readings, page: &[u8], flags: u16) -> Displayed
             shown: blank,
         };
     }
-    let outcomes = atoms::common(picked.set, 15);
-    if (page::fields::atom_count(page) < 4) | (atoms::how_many(outcomes) != 1) {
+    if lacks_outcome(page::fields::atom_count(page), picked.set) {
         return Displayed {
             no: 14,
             shown: blank,
         };
     }
-    fitted(shown_at(atoms::lowest(outcomes), readings))
+    fitted(shown_of(picked.set, readings))
 }

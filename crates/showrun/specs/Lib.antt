@@ -1,2 +1,1 @@
-pub mod Hex
 pub mod Input

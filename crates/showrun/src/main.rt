@@ -1,7 +1,6 @@
 // Reads three readings (four bytes each, low first: live, second, held), a flag word (two bytes, low first) and a page from standard input, and
 // prints what the display shows: the case and the bits of its reading in hexadecimal, `no number`, or the number of a refusal.
 ghost use mathlib.Core.Path.{_≡_};
-ghost use Rattle.showrun.specs.Hex as hex;
 ghost use Rattle.showrun.specs.Input as means;
 use display::Displayed;
 use display::Readings;
@@ -19,37 +18,10 @@ fn reading_at(input: &[u8], low: u8, high: u8) -> f32
     reading::of_bits(bits)
 }
 
-// The last digit of a number in base 16.
-fn digit(n: u32) -> u8
-    ensures { λ r. ⌜ r ≡ hex.digitOf n ⌝ }
-{
-    let last = (n % 16) as u8;
-    if last < 10 {
-        return b'0' + last;
-    }
-    b'W' + last
-}
-
-// All eight digits.
-fn digits(n: u32) -> [u8; 8]
-    ensures { λ r. ⌜ r ≡ hex.hexOf n ⌝ }
-{
-    [
-        digit(n / 0x1000_0000),
-        digit(n / 0x0100_0000),
-        digit(n / 0x0010_0000),
-        digit(n / 0x0001_0000),
-        digit(n / 0x1000),
-        digit(n / 0x0100),
-        digit(n / 0x0010),
-        digit(n),
-    ]
-}
-
 // One line: a case and the bits of its reading.
 fn say_reading(name: &[u8], x: f32) {
     io::write_all(STDOUT_FILENO, name);
-    io::write_all(STDOUT_FILENO, &digits(reading::bits_of(x)));
+    io::print_hex(STDOUT_FILENO, reading::bits_of(x) as u64, 8);
     io::write_all(STDOUT_FILENO, b"\n");
 }
 
@@ -96,8 +68,8 @@ fn say(said: Displayed) {
     say_shown(shown);
 }
 
-// The buffer takes 4,096 bytes, and what comes after them is not read: a page has at most 866, and whether a longer input is refused by 1, 2, 3 or 4 is
-// seen in its header.
+// The buffer takes 4,096 bytes, and what comes after them is not read. A page has at most 866, so a longer input is refused by 2, 3 or 4, and which of
+// these it is can be seen in its header.
 fn main() {
     let mut input = io::buffer();
     let got = io::read_full(STDIN_FILENO, &mut input);
