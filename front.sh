@@ -102,7 +102,7 @@ answer_of() {
         cat "$out" >&2
         broken "the program is not proved"
     }
-    ${emulator:+"$emulator"} "$libs/ld-linux-x86-64.so.2" --library-path "$libs" "$top/target/bin/$1" >"$out"
+    ${emulator:+"$emulator"} "$libs/ld-linux-x86-64.so.2" --library-path "$libs" "$top/target/bin/$1" >"$out" || broken "the program broke off"
     cat "$out"
     last=$(tail -n 1 "$out")
 }

@@ -479,10 +479,10 @@ uint64_t plain_display(float live, float second, float held, const uint8_t *page
     uint32_t pick = plain_pick(page, length, flags), four = pick & 15;
     if (pick >> 16) return blank(pick);
     if (field(page, 2) < 4 || four == 0 || four & (four - 1)) return blank(refused(14));
-    if (four == 8) return blank(PIPEOTTER_SHOWS_NO_NUMBER);
+    if (four == 8) return blank(PIPEOTTER_CASE_NO_NUMBER);
     uint32_t chosen = four >> 1, bits = bits_of(readings[chosen]);
     if ((bits & 0x7f800000) == 0x7f800000) return blank(refused(15));
-    return (uint64_t)(chosen + PIPEOTTER_SHOWS_LIVE) << 32 | bits;
+    return (uint64_t)(chosen + PIPEOTTER_CASE_LIVE) << 32 | bits;
 }
 
 uint8_t plain_letter(uint16_t number) {

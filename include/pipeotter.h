@@ -11,11 +11,12 @@
 
    What a call returns
      65,536 times the refusal number, plus the value. PIPEOTTER_NUMBER and PIPEOTTER_VALUE take them apart.
-     The letter alone is a plain byte. The display returns such a word in its upper half, and a reading's bits in its lower.
+     The letter is a plain byte. The display returns 64 bits, with macros of its own: such a word in the upper half, and
+     a reading's bits in the lower.
      Number 0 is "accepted". Look at the number first: the value 0 is also a good value (the empty set, a count of 0).
      Where several refusals hold, the lowest number of the call's own list is returned. Each number is returned
      exactly when its condition holds, so it can be relied on as a diagnosis.
-     A refused call has the value 0 and leaves all lent memory as it was, entry for entry.
+     A refused call has the value 0 (the display: no number) and leaves all lent memory as it was, entry for entry.
 
    What the proof covers
      For every page content, length, flag word, set and room: the result and the lent memory afterwards are the ones
@@ -86,11 +87,11 @@ enum {
 #define PIPEOTTER_FIRST 1
 #define PIPEOTTER_SECOND 2
 
-/* What pipeotter_display answers. */
-#define PIPEOTTER_SHOWS_NO_NUMBER 0
-#define PIPEOTTER_SHOWS_LIVE 1
-#define PIPEOTTER_SHOWS_SECOND 2
-#define PIPEOTTER_SHOWS_HELD 3
+/* What pipeotter_display answers: which of the readings is shown. */
+#define PIPEOTTER_CASE_NO_NUMBER 0
+#define PIPEOTTER_CASE_LIVE 1
+#define PIPEOTTER_CASE_SECOND 2
+#define PIPEOTTER_CASE_HELD 3
 
 /* The set to act on: the lowest-numbered best set.
    Value: the set. 0 with number 0 is the empty set, a good pick.
@@ -127,16 +128,18 @@ uint32_t pipeotter_compare(const uint8_t *page, size_t length, uint16_t flags, u
 
 /* What a display shows of three readings. On its pages atom 0 is live, 1 second, 2 held and 3 none; where the pick holds
    exactly one of these, that one is shown, with its reading. "None" is shown as no number, and is not a refusal.
-   PIPEOTTER_SHOWN gives the word of number and value. Value: PIPEOTTER_SHOWS_LIVE, _SECOND, _HELD or _NO_NUMBER. With
-   every refusal the value is PIPEOTTER_SHOWS_NO_NUMBER.
-   PIPEOTTER_SHOWN_BITS gives the very bits of the chosen reading, and pipeotter_shown_reading the reading: never an
-   infinity or a NaN where one is shown. Where none is, it is a NaN, so that a caller who forgets to look at the value
-   cannot show a clean 0.
+   The result has 64 bits. Take it apart by the four below, not by PIPEOTTER_NUMBER and PIPEOTTER_VALUE.
+   PIPEOTTER_SHOWN_NUMBER   the refusal number
+   PIPEOTTER_SHOWN_CASE     PIPEOTTER_CASE_LIVE, _SECOND, _HELD or _NO_NUMBER; with every refusal _NO_NUMBER
+   PIPEOTTER_SHOWN_BITS     the very bits of the chosen reading
+   pipeotter_shown_reading  the same as a float: never an infinity or a NaN where a reading is shown
+   Where none is shown the bits are those of a NaN, so that a caller who forgets to look at the case does not show 0.
    The readings that are not chosen change nothing, whatever they are.
    Refusals, in order: 1 to 8, 9 (flags), 10, 14, 15. */
 uint64_t pipeotter_display(float live, float second, float held, const uint8_t *page, size_t length, uint16_t flags);
 
-#define PIPEOTTER_SHOWN(result) ((uint32_t)((uint64_t)(result) >> 32))
+#define PIPEOTTER_SHOWN_NUMBER(result) ((uint16_t)((uint64_t)(result) >> 48))
+#define PIPEOTTER_SHOWN_CASE(result) ((uint16_t)((uint64_t)(result) >> 32 & 0xFFFFu))
 #define PIPEOTTER_SHOWN_BITS(result) ((uint32_t)((uint64_t)(result) & 0xFFFFFFFFu))
 
 static inline float pipeotter_shown_reading(uint64_t result) {

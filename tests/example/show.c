@@ -9,11 +9,11 @@ static const uint8_t page[] = {1, 0, 7, 0, 4, 0, 10, 0, 0, 0, 18, 0, 34, 0, 44, 
 
 static void show(float live, float second, float held, uint16_t flags) {
     uint64_t answer = pipeotter_display(live, second, held, page, sizeof page, flags);
-    uint16_t number = PIPEOTTER_NUMBER(PIPEOTTER_SHOWN(answer));
-    switch (PIPEOTTER_VALUE(PIPEOTTER_SHOWN(answer))) {
-    case PIPEOTTER_SHOWS_LIVE: printf("live %.2f\n", (double)pipeotter_shown_reading(answer)); break;
-    case PIPEOTTER_SHOWS_SECOND: printf("second %.2f\n", (double)pipeotter_shown_reading(answer)); break;
-    case PIPEOTTER_SHOWS_HELD: printf("held %.2f\n", (double)pipeotter_shown_reading(answer)); break;
+    uint16_t number = PIPEOTTER_SHOWN_NUMBER(answer);
+    switch (PIPEOTTER_SHOWN_CASE(answer)) {
+    case PIPEOTTER_CASE_LIVE: printf("live %.2f\n", (double)pipeotter_shown_reading(answer)); break;
+    case PIPEOTTER_CASE_SECOND: printf("second %.2f\n", (double)pipeotter_shown_reading(answer)); break;
+    case PIPEOTTER_CASE_HELD: printf("held %.2f\n", (double)pipeotter_shown_reading(answer)); break;
     default: printf(number == PIPEOTTER_ACCEPTED ? "---\n" : "--- refused %u\n", number);
     }
 }

@@ -1,4 +1,4 @@
-# Sourced by run: what ./pagerun prints of each example, and its exit status; refused pages in words; bad usage; files of every length; and the
+# Sourced by run: what ./pagerun prints of each example, and its exit status; refused pages in words; bad usage; files that are too short or too long; and the
 # program behind it on inputs that the front never gives.
 me=pagerun
 
@@ -42,16 +42,11 @@ changed() {
     { head -c "$2" "$page" && printf "\\$3" && tail -c +$(($2 + 2)) "$page"; } >"$made/$1"
 }
 
-: >"$made/empty"
 head -c 17 "$page" >"$made/short"
 changed form 0 002
 changed atoms 2 021
 changed tall 18 007
 changed atom 23 002
-# longer PAGE LENGTH NAME: a page with zeros after it, up to this length
-longer() {
-    cat "$1" /dev/zero | head -c "$2" >"$made/$3"
-}
 longer "$page" 4094 long-4094
 longer "$page" 4095 long-4095
 longer "$page" 70000 long-70000

@@ -14,12 +14,12 @@ screen() {
 
 page=examples/display.page
 screen 0 'live 3da3d70a' 'the display shows the live reading, given as 0.08' "$page" 0.08 0.11 0.25
-screen 0 'second 3de147ae' "the display shows the second cell's reading, given as 0.11" "$page" 0.08 0.11 0.25 16
-screen 0 'held 3e800000' 'the display shows the held reading, marked, given as 0.25' "$page" 0.08 0.11 0.25 0x30
+screen 0 'second 3de147ae' 'the display shows the second reading, given as 0.11' "$page" 0.08 0.11 0.25 16
+screen 0 'held 3e800000' 'the display shows the held reading, given as 0.25' "$page" 0.08 0.11 0.25 0x30
 screen 0 'no number' 'the display shows no number: the page picks none' "$page" 0.08 0.11 0.25 112
 screen 1 'refused 15' 'display: the chosen reading is infinite or not a number' "$page" nan 0.11 0.25
 screen 1 'refused 15' 'display: the chosen reading is infinite or not a number' "$page" 0.08 -inf 0.25 16
-screen 0 'held 3e800000' 'the display shows the held reading, marked, given as 0.25' "$page" nan inf 0.25 48
+screen 0 'held 3e800000' 'the display shows the held reading, given as 0.25' "$page" nan inf 0.25 48
 screen 0 'live 80000000' 'the display shows the live reading, given as -0.0' "$page" -0.0 1 2
 screen 0 'live 00000001' 'the display shows the live reading, given as 1.4e-45' "$page" 1.4e-45 1 2
 screen 0 'live 7f7fffff' 'the display shows the live reading, given as +3.4028235E38' "$page" +3.4028235E38 1 2
@@ -28,7 +28,12 @@ screen 0 'live 4b800000' 'the display shows the live reading, given as 16777217'
 screen 0 'live 4b800002' 'the display shows the live reading, given as 16777219.' "$page" 16777219. 1 2
 screen 0 'live 3f000000' 'the display shows the live reading, given as .5' "$page" .5 1 2
 screen 0 'live 0000000a' 'the display shows the live reading, given as 0X00a' "$page" 0X00a 1 2
-screen 0 'second ff7fffff' "the display shows the second cell's reading, given as 0xff7fffff" "$page" 1 0xff7fffff 2 16
+screen 0 'second ff7fffff' 'the display shows the second reading, given as 0xff7fffff' "$page" 1 0xff7fffff 2 16
+
+# halfway between 0 and the smallest number, a carry into the normal numbers, and beyond what a double holds
+screen 0 'live 00000000' 'the display shows the live reading, given as 7.0064923216240853546186479164495e-46' "$page" 7.0064923216240853546186479164495e-46 1 2
+screen 0 'live 00800000' 'the display shows the live reading, given as 1.1754943e-38' "$page" 1.1754943e-38 1 2
+screen 1 'refused 15' 'display: the chosen reading is infinite or not a number' "$page" 1e999 1 2
 
 refuses 1 'page fault' "$made/empty" 1 2 3
 refuses 4 'page fault' examples/tail.page 1 2 3
@@ -46,6 +51,7 @@ unusable "$page" 1 2 0x
 unusable "$page" 1 2 0x1g
 unusable "$page" 1 2 0x100000000
 unusable "$page" 1 2 '3; 4'
+unusable "$page" 1 2 '\061'
 unusable "$page" 1 2 3 65536
 unusable examples/no-such.page 1 2 3
 
@@ -56,16 +62,19 @@ verdict 'help of showrun'
 mkdir "$made/screens"
 count=$(python3 tests/front/screens.py "$made/screens") || count=0
 seen=0
-wrong=0
+first=none
 while [ "$seen" -lt "$count" ]; do
-    run target/bin/showrun <"$made/screens/$seen.in" >"$made/out" && cmp -s "$made/out" "$made/screens/$seen.want" || wrong=$((wrong + 1))
+    run target/bin/showrun <"$made/screens/$seen.in" >"$made/out"
+    status=$?
+    [ "$status" -eq 0 ] && cmp -s "$made/out" "$made/screens/$seen.want" || { first=$seen && break; }
     seen=$((seen + 1))
 done
-[ "$seen" -gt 0 ] && [ "$wrong" -eq 0 ]
-verdict "the program on $seen inputs with every case and every kind of reading"
-cat "$made"/screens/*.want | sort -u | cut -d ' ' -f 1,2 >"$made/kinds"
-[ "$(grep -c '^live ' "$made/kinds")" -gt 5 ] && [ "$(grep -c '^second ' "$made/kinds")" -gt 5 ] && [ "$(grep -c '^held ' "$made/kinds")" -gt 5 ] &&
-    grep -q '^no number' "$made/kinds" && [ "$(grep -c '^refused' "$made/kinds")" -eq 5 ]
+[ "$seen" -gt 0 ] && [ "$first" = none ]
+verdict "the program on $seen inputs with every case and every kind of reading; the first that differs: $first"
+cat "$made"/screens/*.want | sort -u >"$made/lines"
+grep '^refused' "$made/lines" | tr '\n' ' ' >"$made/refusals"
+[ "$(cat "$made/refusals")" = 'refused 10 refused 14 refused 15 refused 4 refused 9 ' ] && grep -q '^no number$' "$made/lines" &&
+    [ "$(grep -c '^live ' "$made/lines")" -gt 5 ] && [ "$(grep -c '^second ' "$made/lines")" -gt 5 ] && [ "$(grep -c '^held ' "$made/lines")" -gt 5 ]
 verdict 'among these lines are all cases with many readings, and refusals 4, 9, 10, 14 and 15'
 
 says 'no input' 'refused 1' </dev/null

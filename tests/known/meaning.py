@@ -223,13 +223,6 @@ def display(data, flags, readings):
     return f"{('live', 'second', 'held')[outcomes[0]]} {bits:08x}\n"
 
 
-def main(name, flags, *readings):
-    """A page file and a flag word, and for the display the bits of three readings."""
-    with open(name, "rb") as file:
-        data = file.read()
-    flags = int(flags, 0)
-    sys.stdout.write(display(data, flags, [int(bits, 0) for bits in readings]) if readings else printed(data, flags))
-
-
 if __name__ == "__main__":
-    main(*sys.argv[1:])
+    with open(sys.argv[1], "rb") as file:
+        sys.stdout.write(printed(file.read(), int(sys.argv[2], 0)))

@@ -4,7 +4,7 @@
 const Case cases[CASES] = {
     {2, "ab", "", 0, "1 2 /1"},
     {4, "ab<-c;bc<-d", "", 0, "2 3 4 /3"},
-    {5, "ab<c-d;da<-b;de<-a", "", 0, "1 8 /8"}, /* 01 says of sets only that 6 and 0 are none */
+    {5, "ab<c-d;da<-b;de<-a", "", 0, "1 8 /8"}, /* known of its sets is only that 6 and 0 are none */
     {5, "ab;cd<a;e", "ce", 0, "18 25 /18"},
     {2, "ab;b", "", 0, "2 3 /3"},
     {1, "a<-a", "", 0, ""},

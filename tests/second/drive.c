@@ -16,6 +16,9 @@ int mprotect(void *, size_t, int);
 typedef uint32_t (*Test)(const uint8_t *, size_t, uint16_t, uint16_t);
 typedef uint32_t (*List)(const uint8_t *, size_t, uint16_t, uint16_t *, size_t);
 
+/* Pages that do not depend on the seed: those with known results, those for the display, those made by hand. */
+enum { FIXED = CASES + SCREENS + HAND_MADE };
+
 static Random rng;
 static Solved solved;
 
@@ -119,10 +122,10 @@ static void ask_display(const uint32_t *readings) {
     uint64_t got = pipeotter_display(reading_of(readings[0]), reading_of(readings[1]), reading_of(readings[2]), page.lent, page.length, page.flags);
     calls++;
     refusals[want.answer.number]++;
-    shown_as[want.answer.number ? PIPEOTTER_SHOWS_NO_NUMBER : want.answer.value]++;
+    shown_as[want.answer.number ? PIPEOTTER_CASE_NO_NUMBER : want.answer.value]++;
     if (got != ((uint64_t)(want.answer.number * 65536 + want.answer.value) << 32 | want.bits) && disagrees("display"))
         printf(", readings 0x%08x 0x%08x 0x%08x\n  engine: number %u value %u bits 0x%08x; second solver: number %u value %u bits 0x%08x\n",
-               readings[0], readings[1], readings[2], PIPEOTTER_NUMBER(PIPEOTTER_SHOWN(got)), PIPEOTTER_VALUE(PIPEOTTER_SHOWN(got)),
+               readings[0], readings[1], readings[2], PIPEOTTER_SHOWN_NUMBER(got), PIPEOTTER_SHOWN_CASE(got),
                PIPEOTTER_SHOWN_BITS(got), want.answer.number, want.answer.value, want.bits);
     check_page_memory("display");
 }
@@ -226,7 +229,7 @@ static void ask_about_set(uint16_t set) {
     long rules = solved.rules + 1, parts = 1L << __builtin_popcount(set);
     ask_test("reduct_test", pipeotter_reduct_test, set, second_test(&solved, set));
     if (affordable(parts * rules, 20000)) ask_test("here_there_test", pipeotter_here_there_test, set, second_test(&solved, set));
-    if (solved.split_number > 4096 || page.number <= CASES + HAND_MADE || affordable(solved.split_number * rules, 3000))
+    if (solved.split_number > 4096 || page.number <= FIXED || affordable(solved.split_number * rules, 3000))
         ask_test("split_test", pipeotter_split_test, set, second_split(&solved, set));
 }
 
@@ -345,7 +348,7 @@ static void try_page(const uint8_t *bytes, size_t length) {
     lend_page(bytes, length);
     if (length >= 18 && bytes[2] >= 1 && bytes[2] <= 16) {
         int atoms = bytes[2];
-        ask_all(page.number <= CASES + HAND_MADE || one_in(&rng, 2) ? 0 : some_flags(atoms));
+        ask_all(page.number <= FIXED || one_in(&rng, 2) ? 0 : some_flags(atoms));
         if (atoms <= 6) ask_all(some_flags(atoms));
         if (one_in(&rng, 4)) ask_all((uint16_t)(1u << (atoms - 1))); /* the highest bit that is allowed */
         if (atoms < 16 && one_in(&rng, 4)) ask_all((uint16_t)(some_flags(atoms) | 1u << atoms)); /* the lowest that is not */
@@ -422,15 +425,11 @@ int main(int words, char **word) {
     }
     rng.state = seed;
     *(letters_differ() ? &failed : &passed) += 1;
-    for (int i = 0; i < SCREENS; i++) {
-        try_screen(&screens[i]);
-        *(page.wrong ? &failed : &passed) += 1;
-    }
-    page.number = 0;
-    for (unsigned long i = 0; i < CASES + HAND_MADE + count && failed < stop; i++) {
+    for (unsigned long i = 0; i < FIXED + count && failed < stop; i++) {
         if (i < CASES) try_case(&cases[i]);
-        else if (i < CASES + HAND_MADE) {
-            hand_made_page(&made, (int)(i - CASES));
+        else if (i < CASES + SCREENS) try_screen(&screens[i - CASES]);
+        else if (i < FIXED) {
+            hand_made_page(&made, (int)(i - CASES - SCREENS));
             try_page(made.byte, made.length);
         } else {
             if (one_in(&rng, 3)) damage(&made, &rng);
@@ -441,8 +440,8 @@ int main(int words, char **word) {
         *(page.wrong ? &failed : &passed) += 1;
     }
     if (failed >= stop) printf("stopped at page %ld\n", page.number);
-    printf("seed %lu: the letters, %d pages for the display, %d with known results, %d made by hand, %lu generated; %ld calls compared, %ld answer sets listed\n",
-           seed, SCREENS, CASES, HAND_MADE, count, calls, sets_seen);
+    printf("seed %lu: the letters, %d pages with known results, %d for the display, %d made by hand, %lu generated; %ld calls compared, %ld answer sets listed\n",
+           seed, CASES, SCREENS, HAND_MADE, count, calls, sets_seen);
     printf("answers by number:");
     for (int n = 0; n < 16; n++) printf(" %d:%ld", n, refusals[n]);
     printf("\ndisplays: no number %ld, live %ld, second %ld, held %ld", shown_as[0], shown_as[1], shown_as[2], shown_as[3]);

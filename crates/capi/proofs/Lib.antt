@@ -1,3 +1,4 @@
 pub mod Few
 pub mod Sides
 pub mod Determined
+pub mod Apart

@@ -1,4 +1,4 @@
--- What the calls give to C: 65,536 times the refusal number, plus the value.
+-- What the calls give to C: 65,536 times the refusal number, plus the value. For the display that is the upper half of what it gives.
 use mathlib.Core.Path.{_≡_}
 use mathlib.Core.Bool.{Bool, cond}
 use mathlib.Core.List.{List}

@@ -1,5 +1,6 @@
 // The calls as C sees them (include/pipeotter.h): numbers and lent slices, a slice as a pointer and a length. Each answers 65,536 times the
-// refusal number plus the value. What a call means is said in the crates below; here its answer becomes one word.
+// refusal number plus the value; the letter is a byte, and the display has such a word and the bits of a reading. What a call means is said in
+// the crates below; here its answer becomes one word.
 ghost use mathlib.Core.Path.{_≡_};
 ghost use Rattle.lpod.specs.Answer.{answerSets};
 ghost use Rattle.lpod.specs.Best.{bestSets};
@@ -130,7 +131,7 @@ fn case_value(shown: display::Shown) -> u16
 }
 
 // What the display shows: in the upper half the number and the case as one word, in the lower half the bits of the reading that is shown. Where none
-// is, those of a NaN: whoever shows them without a look at the case does not show clean water.
+// is, those of a NaN: a caller who does not look at the case then shows a NaN, and not 0.
 #[no_mangle]
 pub extern "C" fn pipeotter_display(
     live: f32,

@@ -31,10 +31,13 @@ pub struct Displayed {
 fn shown_at(outcome: u32, readings: Readings) -> Shown
     ensures { λ r. ⌜ r ≡ means.shownAt outcome readings ⌝ }
 {
+    let live = readings.live;
+    let second = readings.second;
+    let held = readings.held;
     match outcome {
-        0 => Shown::Live(readings.live),
-        1 => Shown::Second(readings.second),
-        2 => Shown::Held(readings.held),
+        0 => Shown::Live(live),
+        1 => Shown::Second(second),
+        2 => Shown::Held(held),
         _ => Shown::NoNumber,
     }
 }

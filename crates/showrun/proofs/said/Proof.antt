@@ -28,7 +28,7 @@ module _ (input : List ℕ) where
 
 returns : tie.Need-returns
 unfolding saidOf displayed
-returns c = rw (lt-ltb _ _ (c .if1 .taken))
+returns c = rw (lt-ltb (length (now (c .before .before .args .input))) 14 (omega (arith, c .if1 .taken)))
 
 reading-at-requires : tie.Need-reading-at-requires
 reading-at-requires c κs = search needs
@@ -63,7 +63,7 @@ returns-2 c =
     let l = g .before in
     let e = l .before in
     let input = now (e .before .before .args .input) in
-    rw (le-ltb _ _ (e .if1 .left))
+    rw (le-ltb (length input) 14 (omega (arith, e .if1 .left)))
     (asked input (c .display .result) (l .reading-at .result) (g .reading-at2 .result) (h .reading-at3 .result) _ (f .word-at .result) (l .reading-at .ensures) (g .reading-at2 .ensures)
     (h .reading-at3 .ensures) (rest input) (f .word-at .ensures) (c .display .ensures))
 
