@@ -358,7 +358,7 @@ static void try_page(const uint8_t *bytes, size_t length) {
     }
 }
 
-/* A page with known results: the second solver against the document, before the engine is held to the second solver. */
+/* A page with known results: the second solver against what is known, before the engine is held to the second solver. */
 static void try_case(const Case *c) {
     Page made;
     case_page(&made, c);
@@ -374,7 +374,7 @@ static void try_case(const Case *c) {
         text = right ? end + 1 : "";
     }
     right &= solved.sets ? *text == '/' && strtoul(text + 1, 0, 10) == second_pick(&solved).value : *text == 0;
-    if (!right && disagrees("none")) printf("\n  the second solver does not find the sets and pick of the document: %s\n", c->sets);
+    if (!right && disagrees("none")) printf("\n  the second solver does not find the sets and the pick that are known: %s\n", c->sets);
 }
 
 /* A page made for the display, whose number and value are known: all kinds of the three readings, one with another. Of the

@@ -1,4 +1,4 @@
-/* The second solver, written from the requirements and the two papers by other roads than the engine's.
+/* The second solver, written from the page format and the two papers by other roads than the engine's.
 
    Page     parsed into a sheet of numbers first; then a table of faults, in order, is asked for the first that holds.
    Sets     road 1: every split program is built, and for each set its Gelfond-Lifschitz reduct and least model
@@ -525,5 +525,5 @@ Screen second_display(const Solved *s, const uint32_t *readings) {
 
 int second_prefers(const Solved *s, int m, int n) { return is_preferred(&s->ranked[m], &s->ranked[n]); }
 
-/* As the requirements list them: a string with the letter of each number, a blank for all others. */
+/* As docs/PAGE.md lists them: a string with the letter of each number, a blank for all others. */
 uint8_t second_letter(uint16_t number) { return number < 14 ? (uint8_t)" PPPPPPPPCFCCF"[number] : ' '; }
