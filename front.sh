@@ -3,14 +3,14 @@
 
 # bad WORDS..: bad usage
 bad() {
-    echo "$me: $*" >&2
+    printf '%s\n' "$me: $*" >&2
     echo "Try ./$me --help" >&2
     exit 2
 }
 
 # broken WORDS..: nothing could be said of the page
 broken() {
-    echo "$me: $*" >&2
+    printf '%s\n' "$me: $*" >&2
     exit 3
 }
 
