@@ -79,7 +79,7 @@ means() {
     9) echo "call fault: the flag word raises an atom that the page does not have" ;;
     10) echo "finding: with these flags the page has no answer set, so there is nothing to pick" ;;
     11) echo "call fault: the page has more answer sets than the 32,768 that can be listed" ;;
-    14) echo "display: the page has fewer than four atoms, or the pick does not hold exactly one of live, second, held and none" ;;
+    14) echo "display: the page has fewer than four atoms, or the pick, which ./pagerun shows, does not hold exactly one of live, second, held and none" ;;
     15) echo "display: the chosen reading is infinite or not a number" ;;
     *) echo "a number that this program does not give" ;;
     esac
@@ -107,11 +107,11 @@ answer_of() {
     last=$(tail -n 1 "$out")
 }
 
-# why_refused LINE: says what the refusal in the program's last line means, and ends
+# why_refused LINE [WORDS]: says what the refusal in the program's last line means, adds the words, and ends
 why_refused() {
     case $1 in
     'refused '*)
-        means "${1#refused }"
+        echo "$(means "${1#refused }")${2-}"
         exit 1
         ;;
     *) broken "the program did not end as it should" ;;

@@ -1,7 +1,9 @@
 /* Pipeotter for C: which sets of atoms does a page of ranked rules allow, and which of them is best.
 
-   Link with libcapi.a (x86-64; `rt staticlib capi` writes it). The calls keep nothing between them, take no heap,
-   and touch only what you lend. They may be called from several threads at once if no lent slice is written by two.
+   Link with libcapi.a (x86-64; `rt staticlib capi` writes it). It wants memcpy and memset from you, and a compiler for C99
+   or C++11. The calls keep nothing between them, take no heap, and touch only what you lend. List, best, pick and display
+   need some 17 KiB of stack (docs/SPEED.md, which also tells of time). The calls may be made from several threads at once
+   if no lent slice is written by two.
 
    Words used here
      page    the bytes of one page, form 1: header of 18 bytes, rows, literals, pairs (docs/PAGE.md)
@@ -131,9 +133,10 @@ uint32_t pipeotter_compare(const uint8_t *page, size_t length, uint16_t flags, u
    The result has 64 bits. Take it apart by the four below, not by PIPEOTTER_NUMBER and PIPEOTTER_VALUE.
    PIPEOTTER_SHOWN_NUMBER   the refusal number
    PIPEOTTER_SHOWN_CASE     PIPEOTTER_CASE_LIVE, _SECOND, _HELD or _NO_NUMBER; with every refusal _NO_NUMBER
-   PIPEOTTER_SHOWN_BITS     the very bits of the chosen reading
+   PIPEOTTER_SHOWN_BITS     the very bits of the reading that is shown
    pipeotter_shown_reading  the same as a float: never an infinity or a NaN where a reading is shown
-   Where none is shown the bits are those of a NaN, so that a caller who forgets to look at the case does not show 0.
+   Where none is shown the bits are those of a NaN, 7fc00000, so that a caller who forgets to look at the case does not
+   show 0. The refusals 14 and 15 have no panel letter: test the number.
    The readings that are not chosen change nothing, whatever they are.
    Refusals, in order: 1 to 8, 9 (flags), 10, 14, 15. */
 uint64_t pipeotter_display(float live, float second, float held, const uint8_t *page, size_t length, uint16_t flags);

@@ -17,13 +17,13 @@ screen 0 'live 3da3d70a' 'the display shows the live reading, given as 0.08' "$p
 screen 0 'second 3de147ae' 'the display shows the second reading, given as 0.11' "$page" 0.08 0.11 0.25 16
 screen 0 'held 3e800000' 'the display shows the held reading, given as 0.25' "$page" 0.08 0.11 0.25 0x30
 screen 0 'no number' 'the display shows no number: the page picks none' "$page" 0.08 0.11 0.25 112
-screen 1 'refused 15' 'display: the chosen reading is infinite or not a number' "$page" nan 0.11 0.25
-screen 1 'refused 15' 'display: the chosen reading is infinite or not a number' "$page" 0.08 -inf 0.25 16
+screen 1 'refused 15' 'display: the chosen reading is infinite or not a number; no number is shown' "$page" nan 0.11 0.25
+screen 1 'refused 15' 'display: the chosen reading is infinite or not a number; no number is shown' "$page" 0.08 -inf 0.25 16
 screen 0 'held 3e800000' 'the display shows the held reading, given as 0.25' "$page" nan inf 0.25 48
 screen 0 'live 80000000' 'the display shows the live reading, given as -0.0' "$page" -0.0 1 2
 screen 0 'live 00000001' 'the display shows the live reading, given as 1.4e-45' "$page" 1.4e-45 1 2
 screen 0 'live 7f7fffff' 'the display shows the live reading, given as +3.4028235E38' "$page" +3.4028235E38 1 2
-screen 1 'refused 15' 'display: the chosen reading is infinite or not a number' "$page" 3.4028236e38 1 2
+screen 1 'refused 15' 'display: the chosen reading is infinite or not a number; no number is shown' "$page" 3.4028236e38 1 2
 screen 0 'live 4b800000' 'the display shows the live reading, given as 16777217' "$page" 16777217 1 2
 screen 0 'live 4b800002' 'the display shows the live reading, given as 16777219.' "$page" 16777219. 1 2
 screen 0 'live 3f000000' 'the display shows the live reading, given as .5' "$page" .5 1 2
@@ -33,7 +33,7 @@ screen 0 'second ff7fffff' 'the display shows the second reading, given as 0xff7
 # halfway between 0 and the smallest number, a carry into the normal numbers, and beyond what a double holds
 screen 0 'live 00000000' 'the display shows the live reading, given as 7.0064923216240853546186479164495e-46' "$page" 7.0064923216240853546186479164495e-46 1 2
 screen 0 'live 00800000' 'the display shows the live reading, given as 1.1754943e-38' "$page" 1.1754943e-38 1 2
-screen 1 'refused 15' 'display: the chosen reading is infinite or not a number' "$page" 1e999 1 2
+screen 1 'refused 15' 'display: the chosen reading is infinite or not a number; no number is shown' "$page" 1e999 1 2
 
 refuses 1 'page fault' "$made/empty" 1 2 3
 refuses 4 'page fault' examples/tail.page 1 2 3

@@ -1,17 +1,21 @@
 -- What C takes apart is what was put together: the two halves of a word by a division and a remainder, and those of the display's word likewise. Assumes
 -- nothing.
-use mathlib.Core.Path.{_≡_, refl}
-use mathlib.Core.Option.{Option, some, none}
-use Prim.Native.Nat.{ℕ, _/_, _%_, _<_}
+use mathlib.Core.Path.{_≡_, refl, sym, ap, subst}
+use mathlib.Core.Bool.{Bool, true, false, cond, true≢false}
+use mathlib.Core.List.{List}
+use mathlib.Core.Option.{Option, some, none, Option·some-injective}
+use Prim.Native.Nat.{ℕ, zero, suc, _/_, _%_, _<_}
 use native.Mathlib.Omega.{arith}
-use lib.Dec.{T}
+use lib.Dec.{T, eqb}
 use lib.Ieee.{Float, nan, fits, binary32}
 use lib.Ieee.Bits.{toBits-lt}
 use Rattle.display.specs.Readings.{bitsOf}
-use Rattle.display.specs.Shows.{readingOf, readingOr}
+use Rattle.display.specs.Shows.{outcomes, firstOf, shownAt, shownOf, readingOf, readingOr, pickSet, shownBy, displayNo, displayed}
+use Rattle.display.specs.declared.Readings.{Readings}
+use Rattle.display.specs.declared.Displayed.{Displayed}
 use Rattle.display.specs.declared.Shown.{Shown}
 use Rattle.display.specs.declared.Shown.the-variants.{Live, Second, Held, NoNumber}
-use Rattle.capi.specs.Words.{word, caseValue, shownWord}
+use Rattle.capi.specs.Words.{word, caseValue, shownWord, displayWord}
 
 module _ (n v : ℕ) (l : v < 65536) where
   pub word-number : word n v / 65536 ≡ n
@@ -21,6 +25,14 @@ module _ (n v : ℕ) (l : v < 65536) where
   pub word-value : word n v % 65536 ≡ v
   unfolding word
   word-value = omega arith
+
+there : Option Float → Bool
+there none = false
+there (some x) = true
+
+there-not : (x : Float) → none ≡ some x → ⊥
+unfolding there
+there-not x e = true≢false (sym (ap there e))
 
 -- the display's word, for a reading of single precision
 case-below : (s : Shown) → caseValue s < 65536
@@ -53,3 +65,31 @@ module _ (n : ℕ) (s : Shown) (single : (x : Float) → readingOf s ≡ some x 
   pub shown-bits : shownWord n s % 4294967296 ≡ bitsOf (readingOr nan (readingOf s))
   unfolding shownWord word bits
   shown-bits = omega (arith, case-below s, bits-below)
+
+-- the whole call, with readings of single precision: number, case and bits of what the display says come out as they went in
+module _ (live second held : Float) (l : T (fits binary32 live)) (m : T (fits binary32 second)) (h : T (fits binary32 held)) (page : List ℕ) (flags : ℕ) where
+  pub readings : Readings
+  readings = record { live = live; second = second; held = held }
+
+  pub says : Displayed
+  says = displayed (displayNo readings page flags) (shownBy readings page flags)
+
+  single-at : (a : ℕ) (x : Float) → readingOf (shownAt a readings) ≡ some x → T (fits binary32 x)
+  unfolding readings readingOf shownAt
+  single-at zero x e = subst (λ (y : Float). T (fits binary32 y)) (Option·some-injective live x e) l
+  single-at (suc zero) x e = subst (λ (y : Float). T (fits binary32 y)) (Option·some-injective second x e) m
+  single-at (suc (suc zero)) x e = subst (λ (y : Float). T (fits binary32 y)) (Option·some-injective held x e) h
+  single-at (suc (suc (suc a))) x e = absurd (there-not x e)
+
+  single : (x : Float) → readingOf (says .shown) ≡ some x → T (fits binary32 x)
+  unfolding says displayed shownBy shownOf readingOf
+  single x e = go (eqb (displayNo readings page flags) 0) e
+    where
+      go : (b : Bool) → readingOf (cond b (shownAt (firstOf (outcomes (pickSet page flags))) readings) NoNumber) ≡ some x → T (fits binary32 x)
+      go true e = single-at (firstOf (outcomes (pickSet page flags))) x e
+      go false e = absurd (there-not x e)
+
+  pub display-apart : let w = displayWord live second held page flags in
+      (w / 4294967296 / 65536 ≡ says .no) × (w / 4294967296 % 65536 ≡ caseValue (says .shown)) × (w % 4294967296 ≡ bitsOf (readingOr nan (readingOf (says .shown))))
+  unfolding displayWord says readings
+  display-apart = (shown-number (says .no) (says .shown) single, shown-case (says .no) (says .shown) single, shown-bits (says .no) (says .shown) single)

@@ -28,7 +28,7 @@ outcomes set = keep (has set) (below 4)
 unfoldable pub oneChosen : ℕ → Bool
 oneChosen set = eqb (length (outcomes set)) 1
 
--- that one; 16 is none
+-- that one; 16, which is no atom, where there is none
 unfoldable pub firstOf : List ℕ → ℕ
 firstOf [] = 16
 firstOf (a ∷ l) = a
@@ -44,13 +44,14 @@ shownAt (suc (suc (suc n))) r = NoNumber
 unfoldable pub shownOf : ℕ → Readings → Shown
 shownOf set r = shownAt (firstOf (outcomes set)) r
 
--- the reading that a case shows; d where it shows none
+-- the reading that a case shows
 unfoldable pub readingOf : Shown → Option Float
 readingOf (Live x) = some x
 readingOf (Second x) = some x
 readingOf (Held x) = some x
 readingOf NoNumber = none
 
+-- the same, and d where there is none
 unfoldable pub readingOr : Float → Option Float → Float
 readingOr d none = d
 readingOr d (some x) = x
