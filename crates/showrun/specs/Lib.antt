@@ -1,1 +1,1 @@
-pub mod Input
+pub mod Says

@@ -1,7 +1,9 @@
 // Reads three readings (four bytes each, low first: live, second, held), a flag word (two bytes, low first) and a page from standard input, and
 // prints what the display shows: the case and the bits of its reading in hexadecimal, `no number`, or the number of a refusal.
 ghost use mathlib.Core.Path.{_≡_};
-ghost use Rattle.showrun.specs.Input as means;
+ghost use Prim.Native.Nat.{_≤_};
+ghost use lib.ListN.{length, take};
+ghost use Rattle.showrun.specs.Says as means;
 use display::Displayed;
 use display::Readings;
 use display::Shown;
@@ -18,22 +20,52 @@ fn reading_at(input: &[u8], low: u8, high: u8) -> f32
     reading::of_bits(bits)
 }
 
-// One line: a case and the bits of its reading.
-fn say_reading(name: &[u8], x: f32) {
-    io::write_all(STDOUT_FILENO, name);
-    io::print_hex(STDOUT_FILENO, reading::bits_of(x) as u64, 8);
-    io::write_all(STDOUT_FILENO, b"\n");
+// A few bytes of text: so many from the start, and zeros fill the rest.
+struct Text {
+    bytes: [u8; 9],
+    length: usize,
 }
 
-fn say_shown(shown: Shown) {
+// The name of the case that is shown.
+fn name_of(shown: Shown) -> Text
+    ensures { λ r. ⌜ (r .length ≤ length (r .bytes)) × (take (r .length) (r .bytes) ≡ means.nameOf shown) ⌝ }
+{
     match shown {
-        Shown::Live(x) => say_reading(b"live ", x),
-        Shown::Second(x) => say_reading(b"second ", x),
-        Shown::Held(x) => say_reading(b"held ", x),
-        Shown::NoNumber => {
-            io::write_all(STDOUT_FILENO, b"no number\n");
-        }
+        Shown::Live(x) => Text {
+            bytes: [b'l', b'i', b'v', b'e', 0, 0, 0, 0, 0],
+            length: 4,
+        },
+        Shown::Second(x) => Text {
+            bytes: [b's', b'e', b'c', b'o', b'n', b'd', 0, 0, 0],
+            length: 6,
+        },
+        Shown::Held(x) => Text {
+            bytes: [b'h', b'e', b'l', b'd', 0, 0, 0, 0, 0],
+            length: 4,
+        },
+        Shown::NoNumber => Text {
+            bytes: [b'n', b'o', b' ', b'n', b'u', b'm', b'b', b'e', b'r'],
+            length: 9,
+        },
     }
+}
+
+fn say_name(shown: Shown) {
+    let name = name_of(shown);
+    let bytes = name.bytes;
+    let length = name.length;
+    io::write_all(STDOUT_FILENO, &bytes[..length]);
+}
+
+// One line: the name, and the bits of the reading where there is one.
+fn say_shown(shown: Shown) {
+    say_name(shown);
+    let x = display::reading_of(shown);
+    if x == x {
+        io::write_all(STDOUT_FILENO, b" ");
+        io::print_hex(STDOUT_FILENO, reading::bits_of(x) as u64, 8);
+    }
+    io::write_all(STDOUT_FILENO, b"\n");
 }
 
 fn say_refused(no: u16) {

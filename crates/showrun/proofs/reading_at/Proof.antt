@@ -1,6 +1,6 @@
 -- `showrun::reading_at` joins two words and takes the reading with these bits. Assumes nothing.
 use mathlib.Core.Path.{_∙_}
-use Rattle.showrun.specs.Input.{readingAt}
+use Rattle.showrun.specs.Says.{readingAt}
 use borrow.Author.Needs.{needs}
 use Rattle.showrun.proofs.reading_at.Statement.{statement}
 use Rattle.showrun.proofs.reading_at.Tie as tie

@@ -11,7 +11,7 @@ use denote.Ref.{now}
 use Rattle.page.specs.Fields.{wordAt}
 use Rattle.display.specs.Shows.{displayed, DisplaySays}
 use Rattle.display.specs.declared.Displayed.{Displayed}
-use Rattle.showrun.specs.Input.{readingAt, readingsOf, saidOf}
+use Rattle.showrun.specs.Says.{readingAt, readingsOf, saidOf}
 use borrow.Author.Needs.{needs}
 use Rattle.showrun.proofs.said.Statement.{statement}
 use Rattle.showrun.proofs.said.Tie as tie

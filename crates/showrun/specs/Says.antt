@@ -1,6 +1,6 @@
--- The program's input: three readings of four bytes, a flag word of two, and the page; the low byte first.
+-- What the program reads and says. Its input is three readings of four bytes, a flag word of two, and the page; the low byte first.
 use mathlib.Core.Bool.{cond}
-use mathlib.Core.List.{List}
+use mathlib.Core.List.{List, [], _∷_}
 use Prim.Native.Nat.{ℕ, _+_, _*_}
 use lib.Dec.{ltb}
 use lib.ListN.{length, drop}
@@ -9,7 +9,8 @@ use Rattle.page.specs.Fields.{wordAt}
 use Rattle.display.specs.Readings.{ofWord}
 use Rattle.display.specs.Shows.{shownBy, displayNo, displayed}
 use Rattle.display.specs.declared.Readings.{Readings}
-use Rattle.display.specs.declared.Shown.the-variants.{NoNumber}
+use Rattle.display.specs.declared.Shown.{Shown}
+use Rattle.display.specs.declared.Shown.the-variants.{Live, Second, Held, NoNumber}
 use Rattle.display.specs.declared.Displayed.{Displayed}
 
 -- the reading whose bits are the words at two places, the low one first
@@ -26,3 +27,10 @@ saidOf input =
     let page = drop 14 input in
     let flags = wordAt input 12 in
     cond (ltb (length input) 14) (displayed 1 NoNumber) (displayed (displayNo r page flags) (shownBy r page flags))
+
+-- the name of a case, as it is printed: "live", "second", "held", "no number"
+unfoldable pub nameOf : Shown → List ℕ
+nameOf (Live x) = 108 ∷ 105 ∷ 118 ∷ 101 ∷ []
+nameOf (Second x) = 115 ∷ 101 ∷ 99 ∷ 111 ∷ 110 ∷ 100 ∷ []
+nameOf (Held x) = 104 ∷ 101 ∷ 108 ∷ 100 ∷ []
+nameOf NoNumber = 110 ∷ 111 ∷ 32 ∷ 110 ∷ 117 ∷ 109 ∷ 98 ∷ 101 ∷ 114 ∷ []
