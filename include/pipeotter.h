@@ -1,4 +1,5 @@
-/* Pipeotter for C: which sets of atoms does a page of ranked rules allow, and which of them is best.
+/* Pipeotter for C: which sets of atoms does a page of ranked rules allow, which of them is best, and what a display shows
+   by it.
 
    Link with libcapi.a (x86-64; `rt staticlib capi` writes it). It wants memcpy and memset from you, and a compiler for C99
    or C++11. The calls keep nothing between them, take no heap, and touch only what you lend. List, best, pick and display
@@ -21,8 +22,8 @@
      A refused call has the value 0 (the display: no number) and leaves all lent memory as it was, entry for entry.
 
    What the proof covers
-     For every page content, length, flag word, set and room: the result and the lent memory afterwards are the ones
-     written here, no byte outside the lent memory is read or written, and the call returns.
+     For every page content, length, flag word, set, room and reading: the result and the lent memory afterwards are the
+     ones written here, no byte outside the lent memory is read or written, and the call returns.
 
    What lies outside the proof. These are yours to keep:
      - a pointer must be good for the length given with it: `page` for reading `length` bytes, `sets` for `room`
