@@ -1,9 +1,9 @@
 -- What C takes apart is what was put together: the two halves of a word by a division and a remainder, and those of the display's word likewise. Assumes
 -- nothing.
-use mathlib.Core.Path.{_≡_, refl, sym, ap, subst}
-use mathlib.Core.Bool.{Bool, true, false, cond, true≢false}
+use mathlib.Core.Path.{_≡_, refl, subst}
+use mathlib.Core.Bool.{Bool, true, false, cond}
 use mathlib.Core.List.{List}
-use mathlib.Core.Option.{Option, some, none, Option·some-injective}
+use mathlib.Core.Option.{Option, some, none, Option·none-ne-some, Option·some-injective}
 use Prim.Native.Nat.{ℕ, zero, suc, _/_, _%_, _<_}
 use native.Mathlib.Omega.{arith}
 use lib.Dec.{T, eqb}
@@ -25,14 +25,6 @@ module _ (n v : ℕ) (l : v < 65536) where
   pub word-value : word n v % 65536 ≡ v
   unfolding word
   word-value = omega arith
-
-there : Option Float → Bool
-there none = false
-there (some x) = true
-
-there-not : (x : Float) → none ≡ some x → ⊥
-unfolding there
-there-not x e = true≢false (sym (ap there e))
 
 -- the display's word, for a reading of single precision
 case-below : (s : Shown) → caseValue s < 65536
@@ -74,12 +66,15 @@ module _ (live second held : Float) (l : T (fits binary32 live)) (m : T (fits bi
   pub says : Displayed
   says = displayed (displayNo readings page flags) (shownBy readings page flags)
 
+  same : (y : Float) → T (fits binary32 y) → (x : Float) → some y ≡ some x → T (fits binary32 x)
+  same y f x e = subst (λ (z : Float). T (fits binary32 z)) (Option·some-injective y x e) f
+
   single-at : (a : ℕ) (x : Float) → readingOf (shownAt a readings) ≡ some x → T (fits binary32 x)
   unfolding readings readingOf shownAt
-  single-at zero x e = subst (λ (y : Float). T (fits binary32 y)) (Option·some-injective live x e) l
-  single-at (suc zero) x e = subst (λ (y : Float). T (fits binary32 y)) (Option·some-injective second x e) m
-  single-at (suc (suc zero)) x e = subst (λ (y : Float). T (fits binary32 y)) (Option·some-injective held x e) h
-  single-at (suc (suc (suc a))) x e = absurd (there-not x e)
+  single-at zero x e = same live l x e
+  single-at (suc zero) x e = same second m x e
+  single-at (suc (suc zero)) x e = same held h x e
+  single-at (suc (suc (suc a))) x e = absurd (Option·none-ne-some x e)
 
   single : (x : Float) → readingOf (says .shown) ≡ some x → T (fits binary32 x)
   unfolding says displayed shownBy shownOf readingOf
@@ -87,7 +82,7 @@ module _ (live second held : Float) (l : T (fits binary32 live)) (m : T (fits bi
     where
       go : (b : Bool) → readingOf (cond b (shownAt (firstOf (outcomes (pickSet page flags))) readings) NoNumber) ≡ some x → T (fits binary32 x)
       go true e = single-at (firstOf (outcomes (pickSet page flags))) x e
-      go false e = absurd (there-not x e)
+      go false e = absurd (Option·none-ne-some x e)
 
   pub display-apart : let w = displayWord live second held page flags in
       (w / 4294967296 / 65536 ≡ says .no) × (w / 4294967296 % 65536 ≡ caseValue (says .shown)) × (w % 4294967296 ≡ bitsOf (readingOr nan (readingOf (says .shown))))

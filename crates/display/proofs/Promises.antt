@@ -4,7 +4,7 @@ use mathlib.Core.Path.{_≡_, refl, sym, ap, _∙_, subst}
 use mathlib.Core.Bool.{Bool, true, false, not, cond, true≢false}
 use mathlib.Core.Logic.{_⊎_, _↔_}
 use mathlib.Core.List.{List, _++_}
-use mathlib.Core.Option.{Option, some, none, Option·some-injective}
+use mathlib.Core.Option.{Option, some, none, Option·none-ne-some, Option·some-injective}
 use Prim.Native.Nat.{ℕ, zero, suc, _^_, _≤_, _<_}
 use native.Mathlib.Omega.{arith}
 use native.Mathlib.Decide.{ℕ-discrete}
@@ -156,18 +156,13 @@ module _ (r : Readings) (page : List ℕ) (flags : ℕ) (d : Displayed) (says : 
       rw (← e) (demand-3-pick page flags w (picked n (pick (program page flags))) refl (accepted z .0))
 
   -- ---- the shown number
-  there : Option Float → Bool
-  there none = false
-  there (some x) = true
-
   -- where a number is shown, the call is accepted, and the number is the chosen reading
   pub shown-accepted : (x : Float) → said d .reading ≡ some x → d .no ≡ 0
-  unfolding there
   shown-accepted x e = go (ℕ-discrete (d .no) 0)
     where
       go : Dec (d .no ≡ 0) → d .no ≡ 0
       go (yes z) = z
-      go (no n) = absurd (true≢false (sym (ap there (sym (refused-blank n .1) ∙ e))))
+      go (no n) = absurd (Option·none-ne-some x (sym (refused-blank n .1) ∙ e))
 
   pub shown-reading : (x : Float) → said d .reading ≡ some x → readingOf (shownBy r page flags) ≡ some x
   unfolding said
