@@ -1,25 +1,23 @@
 -- A bit for each set: a block of 16 bits made one bit at a time, all blocks one after the other, and the bit of a set read back. A set s stands
 -- in block s / 16 at s % 16. Assumes nothing.
-use mathlib.Core.Path.{_≡_, refl, sym, ap, _∙_, subst}
-use mathlib.Core.Bool.{Bool, true, false, _||_}
-use mathlib.Core.Logic.{_⊎_, inl, inr, ⊎-elim, _↔_}
-use mathlib.Core.List.{List, [], _∷_, map, List·Memᴰ, List·Memᴰ·head, List·Memᴰ·tail, List·Memᴰ·cases-cons}
+use mathlib.Core.Path.{_≡_, refl, sym, ap, _∙_}
+use mathlib.Core.Bool.{Bool, true, false}
+use mathlib.Core.List.{List, map}
 use Prim.Native.Nat.{ℕ, zero, suc, _+_, _*_, _-_, _/_, _%_, _≤_, _<_}
-use native.Mathlib.Nat.{add-zero, mod-lt, zero-lt-suc}
+use native.Mathlib.Nat.{add-zero}
 use native.Mathlib.Decide.{ℕ-discrete}
 use native.Mathlib.Omega.{arith}
-use lib.Bits.{or-zero-l}
-use lib.Dec.{T, ltb, eqb, lt→ltb}
 use lib.ListN.{length, getD, set, take, length-take, List·getD-eq-default}
 use lib.Seq.{ext-getD, getD-take, getD-set-same, getD-set-other}
-use Rattle.atoms.specs.Atoms.{has, insert, union, withAtom}
-use Rattle.atoms.proofs.Truth.{yes-true, same-yes}
-use Rattle.atoms.proofs.Bits.{has-zero, in-insert, at-insert, of-insert}
+use Rattle.atoms.specs.Atoms.{has, union, withAtom}
+use Rattle.atoms.proofs.Truth.{same-yes}
+use Rattle.atoms.proofs.Bits.{has-zero}
 use Rattle.lpod.specs.Lists.{keep, numbers, below}
 use Rattle.lpod.specs.Rule.{setOf}
 use Rattle.lpod.proofs.Lists.{keep-in, in-keep, in-numbers, numbers-in, numbers-next, numbers-done}
-use Rattle.engine.specs.Marks.{atomsOf, marked, blockOf, marksOf}
-use Rattle.engine.proofs.Heads.{atoms-step, atoms-none, atoms-set}
+use Rattle.words.specs.Coded.{atomsOf}
+use Rattle.words.proofs.Sets.{atoms-first, atoms-step, atoms-none, atoms-set, in-set, set-in}
+use Rattle.engine.specs.Marks.{marked, blockOf, marksOf}
 
 -- ---- one block, bit by bit
 module _ (f : ℕ → Bool) where
@@ -38,24 +36,13 @@ module _ (f : ℕ → Bool) where
     bit-off t w′ ew = rw (ew, numbers-next j 16 l, ← e, t)
 
   pub bits-first : atomsOf (keep f (below 16)) ≡ union 0 (bitsFrom 0)
-  bits-first = sym (or-zero-l (bitsFrom 0))
+  bits-first = atoms-first (keep f (below 16))
 
   pub bits-done : (w j : ℕ) → 16 ≤ j → union w (bitsFrom j) ≡ w
   unfolding keep
   bits-done w j h = atoms-none w (keep f (numbers j (16 - j))) (ap (keep f) (numbers-done j 16 h))
 
--- ---- the atoms of a list as a set, read back
-in-set : (l : List ℕ) (a : ℕ) → T (has (setOf l) a) → List·Memᴰ a l
-unfolding setOf
-in-set [] a t = absurd (subst T (has-zero a) t)
-in-set (b ∷ l) a t = ⊎-elim (λ u. List·Memᴰ·tail (in-set l a u)) (λ e. List·Memᴰ·head e) (of-insert (setOf l) b a t)
-
-set-in : (l : List ℕ) (a : ℕ) → List·Memᴰ a l → T (has (setOf l) a)
-unfolding setOf
-set-in [] a m = elim m [ ]
-set-in (b ∷ l) a m =
-    ⊎-elim (λ e. subst (λ (x : ℕ). T (has (insert (setOf l) b) x)) (sym e) (at-insert (setOf l) b)) (λ n. in-insert (setOf l) b a (set-in l a n)) (List·Memᴰ·cases-cons m)
-
+-- ---- the block, read back
 bit-at : (f : ℕ → Bool) (j : ℕ) → j < 16 → has (atomsOf (keep f (below 16))) j ≡ f j
 bit-at f j l =
     ap (λ (s : ℕ). has s j) (atoms-set (keep f (below 16)) (λ a m. omega (arith, in-numbers 0 16 a (in-keep f (below 16) a m .0) .1)))

@@ -1,22 +1,22 @@
 -- The least best set, found by a champion: over any test that sets pass and any relation that says which of two is preferred. A set to which
 -- one that passes is preferred is not best; so of the sets to which a champion is preferred none is, whatever the relation. Assumes nothing.
-use mathlib.Core.Path.{_≡_, refl, sym, ap, _∙_, subst}
-use mathlib.Core.Bool.{Bool, true, false, _&&_, not, and-true, and-false}
-use mathlib.Core.List.{List, List·Memᴰ}
+use mathlib.Core.Path.{_≡_, sym, subst}
+use mathlib.Core.Bool.{Bool, not, and-true}
+use mathlib.Core.List.{List·Memᴰ}
 use Prim.Native.Nat.{ℕ, _+_, _≤_, _<_}
-use native.Mathlib.Decide.{ℕ-discrete, decLe}
+use native.Mathlib.Decide.{ℕ-discrete}
 use native.Mathlib.Omega.{arith}
 use lib.Dec.{T, not-T}
-use Rattle.atoms.proofs.Truth.{and-l, and-r, both}
-use Rattle.lpod.specs.Lists.{keep, numbers}
+use Rattle.atoms.proofs.Truth.{and-l, and-r, both, yes-true}
+use Rattle.lpod.specs.Lists.{numbers}
 use Rattle.lpod.specs.Best.{noneOver}
 use Rattle.lpod.proofs.Lists.{keep-in, in-keep, in-numbers, numbers-in}
 use Rattle.lpod.proofs.BestAbove.{none-says, says-none}
 use Rattle.engine.specs.Seek.{nextFrom, allFrom}
 use Rattle.engine.specs.Search.{ranked, fits, bestAmong}
 use Rattle.engine.specs.declared.search.Wanted.{Wanted}
-use Rattle.engine.specs.declared.search.Wanted.the-variants.{Any, Above, NotBelow}
-use Rattle.engine.proofs.Seek.{NoneBetween, next-ge, next-le, next-passes, next-miss, next-at, next-skip, next-past}
+use Rattle.engine.specs.declared.search.Wanted.the-variants.{Above, NotBelow}
+use Rattle.engine.proofs.Seek.{next-ge, next-le, next-passes, next-miss, next-at, next-skip, next-within}
 
 -- all sets that pass: those below 65,536
 module _ (q : ℕ → Bool) where
@@ -29,15 +29,14 @@ module _ (q : ℕ → Bool) where
   all-in s l t = keep-in q (numbers 0 65536) s (numbers-in 0 65536 s (omega arith) (omega arith)) t
 
 module _ (over : ℕ → ℕ → Bool) (passes : ℕ → Bool) where
-  -- what is wanted, test by test
-  module _ (w : Wanted) (s : ℕ) (b : Bool) (e : b ≡ passes s) where
-    pub wanted-off : b ≡ false → false ≡ fits over passes w s
-    unfolding fits
-    wanted-off t = rw (← e, t) (sym (and-false (ranked over w s)))
+  -- of what passes the rank decides; what does not pass may be left out
+  pub wanted-on : (w : Wanted) (s : ℕ) → T (passes s) → (r : Bool) → r ≡ ranked over w s → r ≡ fits over passes w s
+  unfolding fits
+  wanted-on w s t r er = rw (yes-true (passes s) t, ← er) (sym (and-true r))
 
-    pub wanted-on : b ≡ true → (r : Bool) → r ≡ ranked over w s → r ≡ fits over passes w s
-    unfolding fits
-    wanted-on t r er = rw (← e, t, ← er) (sym (and-true r))
+  pub wanted-first : (w : Wanted) (i m : ℕ) → m ≡ nextFrom passes i → nextFrom (fits over passes w) i ≡ nextFrom (fits over passes w) m
+  unfolding fits
+  wanted-first w i m e = next-within (fits over passes w) passes (λ s t. and-r (ranked over w s) (passes s) t) i m e
 
   is-passing : (s : ℕ) → T (bestAmong over passes s) → T (passes s)
   unfolding bestAmong
@@ -72,14 +71,8 @@ module _ (over : ℕ → ℕ → Bool) (passes : ℕ → Bool) where
     missed s a b r t = next-miss (fits over passes w) i s a (rw (← e) b) (both (ranked over w s) (passes s) r t)
 
   -- nothing before the first that passes is best
-  pub best-first : (i m : ℕ) → m ≡ nextFrom (fits over passes Any) i → nextFrom (bestAmong over passes) i ≡ nextFrom (bestAmong over passes) m
-  unfolding ranked
-  best-first i m e = go (decLe i 65536)
-    where
-      go : Dec (i ≤ 65536) → nextFrom (bestAmong over passes) i ≡ nextFrom (bestAmong over passes) m
-      go (yes l) =
-          next-skip (bestAmong over passes) i m (found-ge Any i m e) (found-le Any i m e l) (λ s a b t. missed Any i m e s a b tt (is-passing s t))
-      go (no l) = ap (nextFrom (bestAmong over passes)) (sym (next-past (fits over passes Any) i (omega arith)) ∙ sym e)
+  pub best-first : (i m : ℕ) → m ≡ nextFrom passes i → nextFrom (bestAmong over passes) i ≡ nextFrom (bestAmong over passes) m
+  best-first i m e = next-within (bestAmong over passes) passes is-passing i m e
 
   -- no set is preferred to m: it is best
   pub best-here : (m n : ℕ) → m < 65536 → T (passes m) → n ≡ nextFrom (fits over passes (Above m)) 0 → 65536 ≤ n → nextFrom (bestAmong over passes) m ≡ m

@@ -4,7 +4,7 @@
 use mathlib.Core.Path.{_≡_, refl, sym, ap, _∙_}
 use mathlib.Core.Bool.{Bool, true, false, _&&_, not, cond}
 use mathlib.Core.Logic.{_↔_}
-use mathlib.Core.List.{List, [], _∷_, _++_}
+use mathlib.Core.List.{List, [], _∷_, _++_, append-assoc}
 use Prim.Native.Nat.{ℕ}
 use native.Mathlib.Omega.{arith}
 use mir.Syntax.{w8}
@@ -12,48 +12,63 @@ use mir.Val.{toZ, ofZ}
 use lib.Dec.{T}
 use lib.IntN.{ℤ, pos, negsuc, negℤ}
 use borrow.Author.Tests.{ne-eqb}
+use Rattle.lpod.specs.Lists.{every}
 use Rattle.lpod.specs.Rule.{Program}
 use Rattle.lpod.specs.Answer.{answer}
 use Rattle.lpod.specs.Preferred.{preferred, compare}
 use Rattle.lpod.proofs.InclusionOrder.{preferred-irreflexive, preferred-transitive}
 use Rattle.page.specs.Program.{program}
-use Rattle.page.specs.Refusals.{Refusal, refuse, firstThat, setRefusals, testRefusals, testNo, setOut}
-use Rattle.page.proofs.Refusals.{test-numbered}
+use Rattle.page.specs.Refusals.{Refusal, refuse, firstThat, numbered, setRefusals, testRefusals, pageNo, testNo, setOut}
+use Rattle.page.proofs.Refusals.{test-numbered, given-append}
+use Rattle.words.proofs.Lent.{test-page}
 use Rattle.engine.specs.Compare.{compareRefusals, compareNo, compared}
 use Rattle.engine.specs.declared.compare.Compared.{Compared}
+use Rattle.engine.proofs.Given.{numbered-append}
 use Rattle.engine.proofs.Refused.{refused-first, refused-later}
 
--- ---- the number
+-- ---- the number: that of the page, the flag word and both sets, one condition after the other
 module _ (page : List ℕ) (flags M N n : ℕ) (e : n ≡ testNo page flags M) where
-  last : List Refusal
-  last = setRefusals page N ++ (refuse 13 (not (answer (program page flags) M && answer (program page flags) N)) ∷ [])
-
-  pub compare-tested : (n ≡ 0 → ⊥) → n ≡ compareNo page flags M N
-  unfolding compareNo compareRefusals testNo last
-  compare-tested z = refused-first (testRefusals page flags M) last (test-numbered page flags M) n e z
+  pub sets-tested : (n ≡ 0 → ⊥) → n ≡ firstThat (testRefusals page flags M ++ setRefusals page N)
+  unfolding testNo
+  sets-tested z = refused-first (testRefusals page flags M) (setRefusals page N) (test-numbered page flags M) n e z
 
   module _ (z : n ≡ 0) (o : Bool) (eo : o ≡ setOut page N) where
+    pub sets-out : cond o 9 0 ≡ firstThat (testRefusals page flags M ++ setRefusals page N)
+    unfolding testNo firstThat setRefusals
+    sets-out = sym (refused-later (testRefusals page flags M) (setRefusals page N) (test-numbered page flags M) n e z ∙ rw (← eo))
+
+-- then 13, where one of them is no answer set
+module _ (page : List ℕ) (flags M N n : ℕ) (e : n ≡ firstThat (testRefusals page flags M ++ setRefusals page N)) where
+  last : List Refusal
+  last = refuse 13 (not (answer (program page flags) M && answer (program page flags) N)) ∷ []
+
+  one-list : compareNo page flags M N ≡ firstThat ((testRefusals page flags M ++ setRefusals page N) ++ last)
+  unfolding compareNo compareRefusals last
+  one-list = ap firstThat (sym (append-assoc (testRefusals page flags M) (setRefusals page N) last))
+
+  both-numbered : T (numbered (testRefusals page flags M ++ setRefusals page N))
+  unfolding numbered setRefusals every
+  both-numbered = numbered-append (testRefusals page flags M) (setRefusals page N) (test-numbered page flags M) tt
+
+  -- it is 0 only where the page is accepted
+  pub sets-page : n ≡ 0 → pageNo page ≡ 0
+  unfolding testNo
+  sets-page z = test-page page flags M _ refl (given-append (testRefusals page flags M) (setRefusals page N) (test-numbered page flags M) (sym e ∙ z) .0)
+
+  pub compare-early : (n ≡ 0 → ⊥) → n ≡ compareNo page flags M N
+  compare-early z = refused-first (testRefusals page flags M ++ setRefusals page N) last both-numbered n e z ∙ sym one-list
+
+  module _ (z : n ≡ 0) (b : Bool) (eb : b ≡ (answer (program page flags) M && answer (program page flags) N)) where
     from-last : compareNo page flags M N ≡ firstThat last
-    unfolding compareNo compareRefusals testNo last
-    from-last = refused-later (testRefusals page flags M) last (test-numbered page flags M) n e z
+    from-last = one-list ∙ refused-later (testRefusals page flags M ++ setRefusals page N) last both-numbered n e z
 
-    pub compare-out : o ≡ true → 9 ≡ compareNo page flags M N
-    unfolding firstThat setRefusals last
-    compare-out t = sym (from-last ∙ rw (← eo, t))
+    pub compare-no-answer : b ≡ false → 13 ≡ compareNo page flags M N
+    unfolding firstThat last
+    compare-no-answer t = sym (from-last ∙ rw (← eb, t))
 
-    module _ (to : o ≡ false) (a : Bool) (ea : a ≡ answer (program page flags) M) where
-      pub compare-not-first : a ≡ false → 13 ≡ compareNo page flags M N
-      unfolding firstThat setRefusals last
-      compare-not-first t = sym (from-last ∙ rw (← eo, to, ← ea, t))
-
-      module _ (ta : a ≡ true) (b : Bool) (eb : b ≡ answer (program page flags) N) where
-        pub compare-not-second : b ≡ false → 13 ≡ compareNo page flags M N
-        unfolding firstThat setRefusals last
-        compare-not-second t = sym (from-last ∙ rw (← eo, to, ← ea, ta, ← eb, t))
-
-        pub compare-none : b ≡ true → 0 ≡ compareNo page flags M N
-        unfolding firstThat setRefusals last
-        compare-none t = sym (from-last ∙ rw (← eo, to, ← ea, ta, ← eb, t))
+    pub compare-none : b ≡ true → 0 ≡ compareNo page flags M N
+    unfolding firstThat last
+    compare-none t = sym (from-last ∙ rw (← eb, t))
 
 -- ---- the answer
 module _ (n k : ℕ) (side : ℤ) (e : k ≡ n) where
@@ -108,6 +123,11 @@ module _ (p : Program) (M N : ℕ) where
       go true false f = ((λ e. let z : _≡_ {A = ℕ} 0 1 = cc in omega arith), (λ t. absurd t))
       go false true f = ((λ e. tt), (λ t. refl))
       go false false f = ((λ e. let z : _≡_ {A = ℕ} 0 1 = cc in omega arith), (λ t. absurd t))
+
+-- the comparison goes by the relation alone
+pub compare-by : (p q : Program) (M N : ℕ) → preferred p ≡ preferred q → compare p M N ≡ compare q M N
+unfolding compare
+compare-by p q M N e = ap (λ (over : ℕ → ℕ → Bool). cond (over M N) (pos 1) (cond (over N M) (negsuc 0) (pos 0))) e
 
 -- equal sets compare 0
 pub compare-itself : (p : Program) (M : ℕ) → compare p M M ≡ pos 0

@@ -1,24 +1,23 @@
 -- For every public call of atoms, lpod, page, routes and engine: any two answers that its statement allows are equal, and so is the lent memory
 -- afterwards. Each statement is one equation or two, so this is short; it would fail for a statement that left something open.
 -- There is no exception. Assumes nothing.
-use mathlib.Core.Path.{_≡_, sym, ap, _∙_}
+use mathlib.Core.Path.{_≡_, sym, _∙_}
 use mathlib.Core.Bool.{Bool}
 use mathlib.Core.List.{List}
 use Prim.Native.Nat.{ℕ}
 use lib.ListN.{getD}
 use Rattle.atoms.specs.Atoms as sets
-use Rattle.lpod.specs.Rule.{mostAtoms, rules}
+use Rattle.lpod.specs.Rule.{mostAtoms}
 use Rattle.lpod.specs.Satisfied.{allIn, someIn, bodyHolds, satisfies, satisfiesAll, noPair}
 use Rattle.lpod.specs.Reduct.{reduct}
 use Rattle.lpod.specs.Least.{least}
 use Rattle.lpod.specs.Answer.{answer}
 use Rattle.lpod.specs.HereThere.{hereThere}
 use Rattle.lpod.specs.Degree.{place, degree}
-use Rattle.lpod.specs.Preferred.{preferred}
 use Rattle.page.specs.Fields as fields
 use Rattle.page.specs.Refusals as refusals
 use Rattle.page.specs.Letter.{letterOf}
-use Rattle.page.specs.Program.{program, rowsOf, pairsOf, literalPlace}
+use Rattle.page.specs.Program.{rowsOf, pairsOf, literalPlace}
 use Rattle.page.specs.Rows as rows
 use Rattle.page.specs.Reader.{said, rowSaid, numberAfter}
 use Rattle.page.specs.declared.rows.Row.{Row}
@@ -28,7 +27,9 @@ use Rattle.routes.specs.Tests.{ReductSays, HereThereSays}
 use Rattle.routes.specs.Split.{SplitSays}
 use Rattle.routes.specs.declared.Verdict.{Verdict}
 use Rattle.routes.specs.declared.split.Split.{Split}
+use Rattle.words.specs.Coded.{rulesWith, programIn}
 use Rattle.engine.specs.Calls.{SetsSay, ListSays, BestSays, PickSays}
+use Rattle.engine.specs.Rank.{PreferredSays}
 use Rattle.engine.specs.Degrees.{DegreesSays}
 use Rattle.engine.specs.Compare.{CompareSays}
 use Rattle.engine.specs.declared.list.Listed.{Listed}
@@ -181,19 +182,19 @@ pub rows-satisfied : (page : List ℕ) (s : ℕ) (x y : Bool) → x ≡ satisfie
 rows-satisfied page s x y = one-answer
 
 -- routes::reduct
-pub least-of : (page : List ℕ) (flags set : ℕ) (x y : ℕ) → x ≡ least (reduct (rules (program page flags)) set) → y ≡ least (reduct (rules (program page flags)) set) → x ≡ y
-least-of page flags set x y = one-answer
+pub least-of : (words : List ℕ) (flags set : ℕ) (x y : ℕ) → x ≡ least (reduct (rulesWith words flags) set) → y ≡ least (reduct (rulesWith words flags) set) → x ≡ y
+least-of words flags set x y = one-answer
 
-pub is-answer : (page : List ℕ) (flags set : ℕ) (x y : Bool) → x ≡ answer (program page flags) set → y ≡ answer (program page flags) set → x ≡ y
-is-answer page flags set x y = one-answer
+pub is-answer : (words pairs : List ℕ) (flags set : ℕ) (x y : Bool) → x ≡ answer (programIn words pairs flags) set → y ≡ answer (programIn words pairs flags) set → x ≡ y
+is-answer words pairs flags set x y = one-answer
 
 -- routes::here_there
-pub is-here-there : (page : List ℕ) (flags set : ℕ) (x y : Bool) → x ≡ hereThere (program page flags) set → y ≡ hereThere (program page flags) set → x ≡ y
-is-here-there page flags set x y = one-answer
+pub is-here-there : (words pairs : List ℕ) (flags set : ℕ) (x y : Bool) → x ≡ hereThere (programIn words pairs flags) set → y ≡ hereThere (programIn words pairs flags) set → x ≡ y
+is-here-there words pairs flags set x y = one-answer
 
 -- engine::rank
-pub preferred-set : (page : List ℕ) (flags m n : ℕ) (x y : Bool) → x ≡ preferred (program page flags) m n → y ≡ preferred (program page flags) m n → x ≡ y
-preferred-set page flags m n x y = one-answer
+pub preferred-set : (words : List ℕ) (flags m n : ℕ) (x y : Bool) → PreferredSays words flags m n x → PreferredSays words flags m n y → x ≡ y
+preferred-set words flags m n x y = one-answer
 
 -- ---- the row reader
 -- a row by its number

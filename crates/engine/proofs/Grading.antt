@@ -5,7 +5,7 @@ use mathlib.Core.Bool.{Bool, true, false, not}
 use mathlib.Core.List.{List, [], _∷_, map}
 use Prim.Native.Nat.{ℕ, _≤_, _<_}
 use lib.Dec.{ltb}
-use lib.ListN.{length}
+use lib.ListN.{length, take}
 use borrow.Author.Tests.{ltb-false, lt-ltb, le-ltb, ne-eqb}
 use Rattle.lpod.specs.Lists.{every}
 use Rattle.lpod.specs.Answer.{answer}
@@ -14,6 +14,8 @@ use Rattle.page.specs.Fields.{rowCount}
 use Rattle.page.specs.Program.{rowsOf, program}
 use Rattle.page.specs.Refusals.{Refusal, refuse, firstThat, numbered, testRefusals, testNo}
 use Rattle.page.proofs.Refusals.{test-numbered, given-append, given-denied}
+use Rattle.words.specs.Coded.{programIn, rowTotal, pairTotal, rowWords, pairWords}
+use Rattle.words.proofs.Lent.{words-many, test-page, lent-count, lent-answer}
 use Rattle.engine.specs.Entries.{over}
 use Rattle.engine.specs.Degrees.{degreesRefusals, degreesNo, graded, degreesAfter, DegreesSays}
 use Rattle.engine.proofs.Refused.{refused-first, refused-later}
@@ -27,23 +29,32 @@ module _ (page : List ℕ) (flags set room n : ℕ) (e : n ≡ testNo page flags
   unfolding degreesNo degreesRefusals testNo last
   number-tested z = refused-first (testRefusals page flags set) last (test-numbered page flags set) n e z
 
-  module _ (z : n ≡ 0) (rows : ℕ) (er : rows ≡ rowCount page) where
-    from-last : degreesNo page flags set room ≡ firstThat last
-    unfolding degreesNo degreesRefusals testNo last
-    from-last = refused-later (testRefusals page flags set) last (test-numbered page flags set) n e z
+  -- and the last two, as they are found of the words of an accepted page
+  pub number-last : n ≡ 0 → (m : ℕ) (rows : List ℕ) → m ≤ length rows → m ≡ rowTotal page → take (rowTotal page) rows ≡ rowWords page
+      → (q : ℕ) (pairs : List ℕ) → q ≡ pairTotal page → take (pairTotal page) pairs ≡ pairWords page
+      → (k : ℕ) → k ≡ firstThat (refuse 11 (ltb room (length (take m rows))) ∷ refuse 13 (not (answer (programIn (take m rows) (take q pairs) flags) set)) ∷ [])
+      → k ≡ degreesNo page flags set room
+  unfolding degreesNo degreesRefusals testNo last
+  number-last z m rows l em er q pairs eq ep k ek =
+      let h = test-page page flags set n e z in
+      let many : length (take m rows) ≡ rowCount page = sym (words-many m rows l) ∙ lent-count page h m rows em er in
+      ek ∙ rw (many, lent-answer page h m rows em er q pairs eq ep flags)
+      (sym (refused-later (testRefusals page flags set) last (test-numbered page flags set) n e z))
 
-    pub number-short : room < rows → 11 ≡ degreesNo page flags set room
-    unfolding firstThat last
-    number-short h = sym (from-last ∙ rw (← er, lt-ltb room rows h))
+-- the last two, one condition after the other
+pub last-short : (room rows : ℕ) (a : Bool) → room < rows → 11 ≡ firstThat (refuse 11 (ltb room rows) ∷ refuse 13 (not a) ∷ [])
+unfolding firstThat
+last-short room rows a h = rw (lt-ltb room rows h)
 
-    module _ (h : rows ≤ room) (a : Bool) (ea : a ≡ answer (program page flags) set) where
-      pub number-no-answer : a ≡ false → 13 ≡ degreesNo page flags set room
-      unfolding firstThat last
-      number-no-answer t = sym (from-last ∙ rw (← er, le-ltb room rows h, ← ea, t))
+module _ (room rows : ℕ) (a b : Bool) (eb : b ≡ a) where
+  module _ (h : rows ≤ room) where
+    pub last-no-answer : b ≡ false → 13 ≡ firstThat (refuse 11 (ltb room rows) ∷ refuse 13 (not a) ∷ [])
+    unfolding firstThat
+    last-no-answer t = rw (le-ltb room rows h, ← eb, t)
 
-      pub number-none : a ≡ true → 0 ≡ degreesNo page flags set room
-      unfolding firstThat last
-      number-none t = sym (from-last ∙ rw (← er, le-ltb room rows h, ← ea, t))
+    pub last-none : b ≡ true → 0 ≡ firstThat (refuse 11 (ltb room rows) ∷ refuse 13 (not a) ∷ [])
+    unfolding firstThat
+    last-none t = rw (le-ltb room rows h, ← eb, t)
 
 -- ---- the answer, and the slice afterwards
 module _ (page : List ℕ) (flags set : ℕ) (out : List ℕ) (n : ℕ) (e : n ≡ degreesNo page flags set (length out)) where

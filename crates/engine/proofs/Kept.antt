@@ -15,7 +15,7 @@ unfolding keep
 keep-same f g [] e = refl
 keep-same f g (x ∷ l) e = rw (e x (List·Memᴰ·head refl), keep-same f g l (λ y m. e y (List·Memᴰ·tail m)))
 
-keep-none : {A : Type 0} (f : A → Bool) (l : List A) → ((x : A) → List·Memᴰ x l → T (f x) → ⊥) → keep f l ≡ []
+pub keep-none : {A : Type 0} (f : A → Bool) (l : List A) → ((x : A) → List·Memᴰ x l → T (f x) → ⊥) → keep f l ≡ []
 unfolding keep
 keep-none f [] n = refl
 keep-none f (x ∷ l) n = rw (no-false (f x) (n x (List·Memᴰ·head refl))) (keep-none f l (λ y m. n y (List·Memᴰ·tail m)))

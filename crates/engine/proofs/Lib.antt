@@ -12,6 +12,9 @@ pub mod SetsStored
 pub mod Kept
 pub mod Tried
 pub mod Blocks
+pub mod Shifts
+pub mod MarkedWords
+pub mod EmptyBlocks
 pub mod AnswerSets
 pub mod Picks
 pub mod Given

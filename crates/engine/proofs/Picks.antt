@@ -1,12 +1,11 @@
 -- The pick by a search: where the search for the least best set finds one, that is the pick; where it finds none there is no answer set. This
 -- last is the one place that needs the theorem that answer sets have a best one among them. Assumes nothing.
 use mathlib.Core.Path.{_≡_, refl, sym, ap, _∙_}
-use mathlib.Core.Bool.{Bool, true, false, _&&_}
+use mathlib.Core.Bool.{Bool, true, false}
 use mathlib.Core.List.{List, [], _∷_, List·Memᴰ, List·Memᴰ·head}
-use mathlib.Core.Option.{Option, some, none}
+use mathlib.Core.Option.{some, none}
 use Prim.Native.Nat.{ℕ, _^_, _≤_, _<_}
 use native.Mathlib.Omega.{arith}
-use lib.Dec.{T}
 use borrow.Author.Tests.{ne-eqb}
 use Rattle.atoms.proofs.Truth.{and-l}
 use Rattle.lpod.specs.Rule.{Program}
@@ -65,19 +64,19 @@ module _ (page : List ℕ) (flags k : ℕ) (e : k ≡ flagNo page flags) where
   unfolding pickNo pickRefusals picked
   pick-refused z = rw (← call-refused page flags k e 10 (isEmpty (answerSets (program page flags))) z, ne-eqb k 0 z)
 
-  module _ (w : flags < 2 ^ 16) (z : k ≡ 0) (marks : List ℕ) (m : ℕ) (et : marks ≡ answerMarks page flags) (em : m ≡ nextFrom (soughtBest page flags marks) 0) where
-    bests : allFrom (soughtBest page flags marks) 0 ≡ bestSets (program page flags)
+  module _ (w : flags < 2 ^ 16) (z : k ≡ 0) (marks : List ℕ) (m : ℕ) (et : marks ≡ answerMarks page flags) (over : ℕ → ℕ → Bool) (eo : over ≡ preferred (program page flags)) (em : m ≡ nextFrom (soughtBest over marks) 0) where
+    bests : allFrom (soughtBest over marks) 0 ≡ bestSets (program page flags)
     unfolding listing setsOf
-    bests = all-sets page flags k marks Best w e z et
+    bests = all-sets page flags k marks Best w e z et over eo
 
     pub pick-none : 65536 ≤ m → PickSays page flags (record { no = 10; set = 0 })
     unfolding pickNo pickRefusals picked pick
     pick-none l =
-        let n : pick (program page flags) ≡ none = ap firstOf (sym bests) ∙ first-missing (soughtBest page flags marks) m em l in
+        let n : pick (program page flags) ≡ none = ap firstOf (sym bests) ∙ first-missing (soughtBest over marks) m em l in
         rw (← last-refused page flags k e 10 (isEmpty (answerSets (program page flags))) z (no-set (program page flags) n))
 
     pub pick-found : m < 65536 → PickSays page flags (record { no = 0; set = m })
     unfolding pickNo pickRefusals picked pick setOr
     pick-found l =
-        let n : pick (program page flags) ≡ some m = ap firstOf (sym bests) ∙ first-found (soughtBest page flags marks) m em l in
+        let n : pick (program page flags) ≡ some m = ap firstOf (sym bests) ∙ first-found (soughtBest over marks) m em l in
         rw (← none-refused page flags k e 10 (isEmpty (answerSets (program page flags))) z (some-set (program page flags) m n), n)

@@ -6,7 +6,6 @@ use mathlib.Core.List.{List, [], _∷_}
 use Prim.Native.Nat.{ℕ, zero, suc, _+_, _-_, _≤_, _<_}
 use native.Mathlib.Decide.{ℕ-discrete, decLe}
 use native.Mathlib.Nat.{le-refl}
-use native.Mathlib.Numerals.{add-one}
 use native.Mathlib.Omega.{arith}
 use lib.Dec.{T}
 use lib.ListN.{length}
@@ -89,7 +88,7 @@ module _ (q : ℕ → Bool) where
   next-past i h = let e : 65536 - i ≡ 0 = omega arith in ap (seek q i) e
 
   -- what is below the place found and what is not: so a number with these properties is what is found
-  next-is : (i m : ℕ) → i ≤ m → m < 65536 → NoneBetween i m → T (q m) → nextFrom q i ≡ m
+  pub next-is : (i m : ℕ) → i ≤ m → m < 65536 → NoneBetween i m → T (q m) → nextFrom q i ≡ m
   next-is i m l h f t = go (decLe (nextFrom q i) m) (decLe m (nextFrom q i))
     where
       go : Dec (nextFrom q i ≤ m) → Dec (m ≤ nextFrom q i) → nextFrom q i ≡ m
@@ -160,3 +159,11 @@ module _ (q : ℕ → Bool) where
   pub all-length : (i : ℕ) → length (allFrom q i) ≤ 65536 - i
   unfolding allFrom
   all-length i = omega (arith, keep-length q (numbers i (65536 - i)), numbers-length i (65536 - i))
+
+-- a search may begin at the first that passes a test which all that is sought passes
+pub next-within : (q passes : ℕ → Bool) → ((s : ℕ) → T (q s) → T (passes s)) → (i m : ℕ) → m ≡ nextFrom passes i → nextFrom q i ≡ nextFrom q m
+next-within q passes f i m e = go (decLe i 65536)
+  where
+    go : Dec (i ≤ 65536) → nextFrom q i ≡ nextFrom q m
+    go (yes l) = next-skip q i m (rw e (next-ge passes i)) (rw e (next-le passes i l)) (λ s a b t. next-miss passes i s a (rw (← e) b) (f s t))
+    go (no l) = ap (nextFrom q) (sym (next-past passes i (omega arith)) ∙ sym e)

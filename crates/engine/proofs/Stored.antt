@@ -10,8 +10,7 @@ use lib.ListN.{length, set}
 use lib.Seq.{sets, sets-eq}
 use Rattle.lpod.specs.Rule.{Rule}
 use Rattle.lpod.specs.Degree.{degree}
-use Rattle.page.specs.Fields.{rowCount}
-use Rattle.page.specs.Program.{rowsFrom, rowsOf}
+use Rattle.words.specs.Coded.{rulesIn}
 use Rattle.engine.specs.Entries.{over}
 
 pub over-sets : (xs out : List ℕ) → length xs ≤ length out → sets out 0 xs ≡ over xs out
@@ -26,11 +25,8 @@ module _ {P rest : List Rule} {r : Rule} (s : ℕ) (out : List ℕ) (at : ℕ) (
 pub sets-end : (s : ℕ) (out : List ℕ) (at : ℕ) (P : List Rule) → P ≡ [] → sets out at (map (degree s) P) ≡ out
 sets-end s out at P e = rw e
 
--- as many degrees as the page has rows
-pub degrees-length : (page : List ℕ) (s : ℕ) → length (map (degree s) (rowsOf page)) ≡ rowCount page
-unfolding rowsOf rowsFrom
-degrees-length page s = count 0 _ (rowCount page)
-  where
-    count : (r i n : ℕ) → length (map (degree s) (rowsFrom page r i n)) ≡ n
-    count r i zero = refl
-    count r i (suc n) = ap suc (count (r + 1) _ n)
+-- as many degrees as there are rows
+pub degrees-length : (s : ℕ) (words : List ℕ) → length (map (degree s) (rulesIn words)) ≡ length words
+unfolding rulesIn
+degrees-length s [] = refl
+degrees-length s (w ∷ words) = ap suc (degrees-length s words)

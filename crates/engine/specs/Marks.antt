@@ -3,25 +3,21 @@
 use mathlib.Core.Bool.{Bool, _&&_}
 use mathlib.Core.List.{List, map}
 use Prim.Native.Nat.{ℕ, _+_, _*_, _/_, _%_}
-use lib.Dec.{ltb}
 use lib.ListN.{getD}
 use Rattle.atoms.specs.Atoms.{has, inside, union}
 use Rattle.lpod.specs.Lists.{keep, below}
-use Rattle.lpod.specs.Rule.{Program, setOf, headAtoms}
+use Rattle.lpod.specs.Rule.{Rule, headAtoms}
 use Rattle.lpod.specs.Answer.{answer}
 use Rattle.page.specs.Program.{rowsOf, program}
-
--- a list of numbers as a set: a number of 16 or more is no atom
-unfoldable pub atomsOf : List ℕ → ℕ
-atomsOf l = setOf (keep (λ a. ltb a 16) l)
+use Rattle.words.specs.Coded.{atomsOf}
 
 -- the flags with every atom that stands in a head
-unfoldable pub topOf : List ℕ → ℕ → ℕ
-topOf page flags = union flags (atomsOf (headAtoms (rowsOf page)))
+unfoldable pub topOf : List Rule → ℕ → ℕ
+topOf P flags = union flags (atomsOf (headAtoms P))
 
--- s lies between the flags and top, and is an answer set
-unfoldable pub tried : Program → ℕ → ℕ → Bool
-tried p top s = inside (p .flags) s && (inside s top && answer p s)
+-- s lies between the flags and top, and passes: it is an answer set
+unfoldable pub tried : (ℕ → Bool) → ℕ → ℕ → ℕ → Bool
+tried passes flags top s = inside flags s && (inside s top && passes s)
 
 -- ---- a bit for each set: bit j of word b is the set 16 b + j
 unfoldable pub marked : List ℕ → ℕ → Bool
@@ -41,4 +37,4 @@ wordsTo top = top / 16 + 1
 
 -- the answer sets of a page and a flag word
 unfoldable pub answerMarks : List ℕ → ℕ → List ℕ
-answerMarks page flags = marksOf (tried (program page flags) (topOf page flags)) (wordsTo (topOf page flags))
+answerMarks page flags = marksOf (tried (answer (program page flags)) flags (topOf (rowsOf page) flags)) (wordsTo (topOf (rowsOf page) flags))

@@ -8,12 +8,16 @@ use Rattle.atoms.specs.Atoms.{inside, common}
 use Rattle.lpod.specs.Rule.{Rule}
 use Rattle.lpod.specs.Degree.{degree}
 use Rattle.lpod.specs.Preferred.{preferred}
-use Rattle.page.specs.Program.{program}
+use Rattle.words.specs.Coded.{programIn}
 use Rattle.engine.specs.declared.rank.Difference.{Difference}
 
--- the statement of the call: the relation of lpod, for any page, flag word and sets
+-- the relation of lpod, for rows in words and a flag word: it asks for no pairs, and none are given
+abbrev pub prefers : List ℕ → ℕ → ℕ → ℕ → Bool
+prefers rows flags = preferred (programIn rows [] flags)
+
+-- the statement of the call, for any rows, flag word and sets
 abbrev pub PreferredSays : List ℕ → ℕ → ℕ → ℕ → Bool → Type 0
-PreferredSays page flags M N r = r ≡ preferred (program page flags) M N
+PreferredSays rows flags M N r = r ≡ prefers rows flags M N
 
 -- ---- how the pass goes. The statement does not rest on these: they stand between the code and the relation
 -- a row has degree d in one set alone, in the first or else in the second: it counts where it is the least so far; 0 is no degree

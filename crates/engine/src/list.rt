@@ -4,6 +4,7 @@ ghost use mathlib.Core.Path.{_≡_};
 ghost use Prim.Native.Nat.{_≤_};
 ghost use lib.ListN.{length};
 ghost use Rattle.engine.specs.Entries.{over};
+ghost use Rattle.engine.specs.Rank.{prefers};
 ghost use Rattle.engine.specs.Seek.{nextFrom, allFrom};
 ghost use Rattle.page.specs.Program.{program};
 ghost use Rattle.engine.specs.Lists as lists;
@@ -11,6 +12,7 @@ ghost use Rattle.engine.specs.Calls as means;
 use crate::marks;
 use crate::search;
 use page::accept;
+use words::read;
 
 // A refusal number, and how many sets are stored.
 pub struct Listed {
@@ -25,39 +27,39 @@ pub enum Which {
 }
 
 // The least of these sets from `from` on.
-fn next_of(page: &[u8], flags: u16, marks: &[u16], which: Which, from: u32) -> u32
-    ensures { λ r. ⌜ r ≡ nextFrom (lists.listing (now (page .entry)) flags (now (marks .entry)) which) from ⌝ }
+fn next_of(rows: &[u64], flags: u16, marks: &[u16], which: Which, from: u32) -> u32
+    ensures { λ r. ⌜ r ≡ nextFrom (lists.listing (prefers (now (rows .entry)) flags) (now (marks .entry)) which) from ⌝ }
 {
     match which {
-        Which::All => search::next(page, flags, marks, search::Wanted::Any, from),
-        Which::Best => search::next_best(page, flags, marks, from),
+        Which::All => search::next_marked(marks, from),
+        Which::Best => search::next_best(rows, flags, marks, from),
     }
 }
 
 // How many there are.
-fn count(page: &[u8], flags: u16, marks: &[u16], which: Which) -> u32
-    ensures { λ r. ⌜ r ≡ length (allFrom (lists.listing (now (page .entry)) flags (now (marks .entry)) which) 0) ⌝ }
+fn count(rows: &[u64], flags: u16, marks: &[u16], which: Which) -> u32
+    ensures { λ r. ⌜ r ≡ length (allFrom (lists.listing (prefers (now (rows .entry)) flags) (now (marks .entry)) which) 0) ⌝ }
 {
     let mut k = 0;
-    let mut m = next_of(page, flags, marks, which, 0);
+    let mut m = next_of(rows, flags, marks, which, 0);
     while m < 65536 {
         k += 1;
-        m = next_of(page, flags, marks, which, m + 1);
+        m = next_of(rows, flags, marks, which, m + 1);
     }
     k
 }
 
 // Stores them at the start of a slice that has room for all.
-fn fill(page: &[u8], flags: u16, marks: &[u16], which: Which, out: &mut [u16])
-    requires { ⌜ length (allFrom (lists.listing (now page) flags (now marks) which) 0) ≤ length (now out) ⌝ }
-    ensures { λ r. ⌜ now (out .exit) ≡ over (allFrom (lists.listing (now (page .entry)) flags (now (marks .entry)) which) 0) (now (out .entry)) ⌝ }
+fn fill(rows: &[u64], flags: u16, marks: &[u16], which: Which, out: &mut [u16])
+    requires { ⌜ length (allFrom (lists.listing (prefers (now rows) flags) (now marks) which) 0) ≤ length (now out) ⌝ }
+    ensures { λ r. ⌜ now (out .exit) ≡ over (allFrom (lists.listing (prefers (now (rows .entry)) flags) (now (marks .entry)) which) 0) (now (out .entry)) ⌝ }
 {
     let mut k: usize = 0;
-    let mut set = next_of(page, flags, marks, which, 0);
+    let mut set = next_of(rows, flags, marks, which, 0);
     while set < 65536 {
         out[k] = set as u16;
         k += 1;
-        set = next_of(page, flags, marks, which, set + 1);
+        set = next_of(rows, flags, marks, which, set + 1);
     }
 }
 
@@ -69,15 +71,19 @@ pub fn sets(page: &[u8], flags: u16, which: Which, out: &mut [u16]) -> Listed
     if no != 0 {
         return Listed { no, count: 0 };
     }
-    let top = marks::top_of(page, flags);
+    let n = read::row_total(page);
+    let rows = read::row_words(page);
+    let q = read::pair_total(page);
+    let pairs = read::pair_words(page);
+    let top = marks::top_of(&rows[..n], flags);
     let words = marks::words_to(top);
-    let bits = marks::answers(page, flags, top);
-    let n = count(page, flags, &bits[..words], which);
-    if out.len() < n as usize {
+    let bits = marks::answers(&rows[..n], &pairs[..q], flags, top);
+    let many = count(&rows[..n], flags, &bits[..words], which);
+    if out.len() < many as usize {
         return Listed { no: 11, count: 0 };
     }
-    fill(page, flags, &bits[..words], which, &mut *out);
-    Listed { no: 0, count: n }
+    fill(&rows[..n], flags, &bits[..words], which, &mut *out);
+    Listed { no: 0, count: many }
 }
 
 // All answer sets.

@@ -1,59 +1,54 @@
 // One bit for each set, 65,536 of them: whether it is an answer set. Each set is tested once; all searches then go by the bits. Only sets
-// between the flags and the flags with all head atoms are tested: on an accepted page no answer set lies elsewhere. Any page and flag word
-// will do.
+// between the flags and the flags with all head atoms are tested: on an accepted page no answer set lies elsewhere. The tests take rows and
+// pairs in words. Any words and flag word will do.
 ghost use mathlib.Core.Path.{_≡_};
 ghost use Prim.Native.Nat.{_<_};
 ghost use lib.ListN.{length, take};
 ghost use Rattle.atoms.specs.Atoms.{union};
 ghost use Rattle.lpod.specs.Rule.{headAtoms};
-ghost use Rattle.page.specs.Program.{program, rowsOf};
-ghost use Rattle.page.specs.Rows.{ruleOf};
+ghost use Rattle.lpod.specs.Answer.{answer};
+ghost use Rattle.words.specs.Coded.{ruleIn, rulesIn, programIn, atomsOf};
 ghost use Rattle.engine.specs.Marks as means;
-use page::fields;
-use page::rows;
 use routes::reduct;
+use words::row;
 
 // s and the head atoms of one row.
-fn with_head(page: &[u8], row: rows::Row, s: u16) -> u16
-    ensures { λ r. ⌜ r ≡ union s (means.atomsOf (ruleOf (now (page .entry)) row .head)) ⌝ }
+fn with_head(word: u64, s: u16) -> u16
+    ensures { λ r. ⌜ r ≡ union s (atomsOf (ruleIn word .head)) ⌝ }
 {
-    let n = row.head;
+    let n = row::head_count(word);
     let mut t = s;
     let mut k = 0;
     while k < n {
-        t = atoms::with_atom(t, rows::head_atom(page, row, k));
+        t = atoms::with_atom(t, row::head_atom(word, k));
         k += 1;
     }
     t
 }
 
 // The atoms that stand in a head.
-fn head_atoms(page: &[u8]) -> u16
-    ensures { λ r. ⌜ r ≡ means.atomsOf (headAtoms (rowsOf (now (page .entry)))) ⌝ }
+fn head_atoms(rows: &[u64]) -> u16
+    ensures { λ r. ⌜ r ≡ atomsOf (headAtoms (rulesIn (now (rows .entry)))) ⌝ }
 {
-    let rows = fields::row_count(page);
-    let mut place = rows::first_place(page);
     let mut s = 0;
     let mut n = 0;
-    while n < rows {
-        let row = rows::row_from(page, n, place);
-        s = with_head(page, row, s);
-        place = rows::place_after(row);
+    while n < rows.len() {
+        s = with_head(rows[n], s);
         n += 1;
     }
     s
 }
 
 // The flags with all head atoms: every answer set of an accepted page is a part of this.
-pub fn top_of(page: &[u8], flags: u16) -> u16
-    ensures { λ r. ⌜ r ≡ means.topOf (now (page .entry)) flags ⌝ }
+pub fn top_of(rows: &[u64], flags: u16) -> u16
+    ensures { λ r. ⌜ r ≡ means.topOf (rulesIn (now (rows .entry))) flags ⌝ }
 {
-    atoms::union(flags, head_atoms(page))
+    atoms::union(flags, head_atoms(rows))
 }
 
 // The set lies between the flags and top, and is an answer set. The cheap tests come first.
-fn is_tried(page: &[u8], flags: u16, top: u16, set: u16) -> bool
-    ensures { λ r. ⌜ r ≡ means.tried (program (now (page .entry)) flags) top set ⌝ }
+fn is_tried(rows: &[u64], pairs: &[u16], flags: u16, top: u16, set: u16) -> bool
+    ensures { λ r. ⌜ r ≡ means.tried (answer (programIn (now (rows .entry)) (now (pairs .entry)) flags)) flags top set ⌝ }
 {
     if !atoms::part_of(flags, set) {
         return false;
@@ -61,18 +56,25 @@ fn is_tried(page: &[u8], flags: u16, top: u16, set: u16) -> bool
     if !atoms::part_of(set, top) {
         return false;
     }
-    reduct::is_answer(page, flags, set)
+    reduct::is_answer(rows, pairs, flags, set)
 }
 
-// The bits of the 16 sets from 16 b on.
-fn block(page: &[u8], flags: u16, top: u16, b: u16) -> u16
+// The bits of the 16 sets from 16 b on. They share their upper 12 bits, which are b: where those do not lie between the upper bits of the flags
+// and of top, none of the 16 is tried.
+fn block(rows: &[u64], pairs: &[u16], flags: u16, top: u16, b: u16) -> u16
     requires { ⌜ b < 4096 ⌝ }
-    ensures { λ r. ⌜ r ≡ means.blockOf (means.tried (program (now (page .entry)) flags) top) b ⌝ }
+    ensures { λ r. ⌜ r ≡ means.blockOf (means.tried (answer (programIn (now (rows .entry)) (now (pairs .entry)) flags)) flags top) b ⌝ }
 {
+    if !atoms::part_of(flags / 16, b) {
+        return 0;
+    }
+    if !atoms::part_of(b, top / 16) {
+        return 0;
+    }
     let mut w = 0;
     let mut j: u8 = 0;
     while j < 16 {
-        if is_tried(page, flags, top, 16 * b + j as u16) {
+        if is_tried(rows, pairs, flags, top, 16 * b + j as u16) {
             w = atoms::with_atom(w, j);
         }
         j += 1;
@@ -88,26 +90,15 @@ pub fn words_to(top: u16) -> usize
 }
 
 // The bits of all sets up to top, in the first words. No set above top is tried, and the words after these stay 0.
-pub fn answers(page: &[u8], flags: u16, top: u16) -> [u16; 4096]
-    ensures { λ r. ⌜ (length r ≡ 4096) × (take (means.wordsTo top) r ≡ means.marksOf (means.tried (program (now (page .entry)) flags) top) (means.wordsTo top)) ⌝ }
+pub fn answers(rows: &[u64], pairs: &[u16], flags: u16, top: u16) -> [u16; 4096]
+    ensures { λ r. ⌜ (length r ≡ 4096) × (take (means.wordsTo top) r ≡ means.marksOf (means.tried (answer (programIn (now (rows .entry)) (now (pairs .entry)) flags)) flags top) (means.wordsTo top)) ⌝ }
 {
     let last = top / 16;
     let mut marks = [0u16; 4096];
     let mut b: u16 = 0;
     while b <= last {
-        marks[b as usize] = block(page, flags, top, b);
+        marks[b as usize] = block(rows, pairs, flags, top, b);
         b += 1;
     }
     marks
-}
-
-// The set's bit.
-pub fn is_marked(marks: &[u16], set: u16) -> bool
-    ensures { λ r. ⌜ r ≡ means.marked (now (marks .entry)) set ⌝ }
-{
-    let at = (set / 16) as usize;
-    if at < marks.len() {
-        return atoms::holds(marks[at], (set % 16) as u8);
-    }
-    false
 }

@@ -3,6 +3,7 @@ ghost use Rattle.engine.specs.Calls as means;
 use crate::marks;
 use crate::search;
 use page::accept;
+use words::read;
 
 // A refusal number, and the set that is picked. The empty set is a good pick: only the number tells it from a refusal.
 pub struct Picked {
@@ -18,10 +19,14 @@ pub fn pick(page: &[u8], flags: u16) -> Picked
     if no != 0 {
         return Picked { no, set: 0 };
     }
-    let top = marks::top_of(page, flags);
+    let n = read::row_total(page);
+    let rows = read::row_words(page);
+    let q = read::pair_total(page);
+    let pairs = read::pair_words(page);
+    let top = marks::top_of(&rows[..n], flags);
     let words = marks::words_to(top);
-    let bits = marks::answers(page, flags, top);
-    let m = search::next_best(page, flags, &bits[..words], 0);
+    let bits = marks::answers(&rows[..n], &pairs[..q], flags, top);
+    let m = search::next_best(&rows[..n], flags, &bits[..words], 0);
     if m < 65536 {
         let set = m as u16;
         return Picked { no: 0, set };

@@ -1,10 +1,9 @@
 // Which of two sets is preferred. This is the one place where sets are ranked: whoever compares, looks for the best or picks asks here.
-// Any page, flag word and sets will do.
+// It takes the rows in words, so that nothing of the page is read for a pair of sets. Any words, flag word and sets will do.
 ghost use mathlib.Core.Path.{_≡_};
-ghost use Rattle.page.specs.Program.{rowsOf};
+ghost use Rattle.words.specs.Coded.{rulesIn};
 ghost use Rattle.engine.specs.Rank as means;
-use page::fields;
-use page::rows;
+use words::row;
 
 // Where two sets differ: the least degree that a row has in one of them alone, 0 where no row has one; whether some row has it in the first
 // set alone, and whether some row has it in the second alone.
@@ -69,31 +68,24 @@ fn raised(flags: u16, m: u16, n: u16) -> Difference
     }
 }
 
-// Where the rows of the page differ, after what was found before them.
-fn rows_seen(page: &[u8], before: Difference, m: u16, n: u16) -> Difference
-    ensures { λ r. ⌜ r ≡ means.rowsSeen before (rowsOf (now (page .entry))) m n ⌝ }
+// Where the rows differ, after what was found before them.
+fn rows_seen(rows: &[u64], before: Difference, m: u16, n: u16) -> Difference
+    ensures { λ r. ⌜ r ≡ means.rowsSeen before (rulesIn (now (rows .entry))) m n ⌝ }
 {
-    let rows = fields::row_count(page);
-    let mut place = rows::first_place(page);
     let mut found = before;
     let mut at = 0;
-    while at < rows {
-        let row = rows::row_from(page, at, place);
-        found = seen(
-            found,
-            rows::degree(page, row, m),
-            rows::degree(page, row, n),
-        );
-        place = rows::place_after(row);
+    while at < rows.len() {
+        let word = rows[at];
+        found = seen(found, row::degree(word, m), row::degree(word, n));
         at += 1;
     }
     found
 }
 
 // m is preferred to n: at the least degree where the two differ, some row has it in m alone and no row has it in n alone.
-pub fn preferred(page: &[u8], flags: u16, m: u16, n: u16) -> bool
-    ensures { λ r. ⌜ means.PreferredSays (now (page .entry)) flags m n r ⌝ }
+pub fn preferred(rows: &[u64], flags: u16, m: u16, n: u16) -> bool
+    ensures { λ r. ⌜ means.PreferredSays (now (rows .entry)) flags m n r ⌝ }
 {
-    let found = rows_seen(page, raised(flags, m, n), m, n);
+    let found = rows_seen(rows, raised(flags, m, n), m, n);
     found.first & !found.second
 }

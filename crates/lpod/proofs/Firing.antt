@@ -1,7 +1,7 @@
 -- What one row adds in a round, told by the tests that code makes; and what the rows of raised atoms add: the raised atoms that the set
 -- holds. By computing, and by membership. Assumes nothing.
 use mathlib.Core.Path.{_≡_, refl, sym, ap, _∙_, subst}
-use mathlib.Core.Bool.{Bool, true, false, _&&_, _||_, not, cond}
+use mathlib.Core.Bool.{Bool, true, false, _&&_, cond}
 use mathlib.Core.Logic.{_⊎_, inl, inr, ⊎-elim}
 use mathlib.Core.List.{List, [], _∷_, _++_, List·Memᴰ, List·Memᴰ·head, List·Memᴰ·tail, List·Memᴰ·cases-cons}
 use Prim.Native.Nat.{ℕ, zero, suc, _+_, _-_, _^_, _≤_, _<_}
@@ -10,12 +10,12 @@ use lib.Dec.{T}
 use lib.Bits.{bitAnd, bitOr}
 use lib.ListN.{getD}
 use Rattle.atoms.specs.Atoms.{has, insert, withAtom, union, common}
-use Rattle.atoms.proofs.Truth.{and-l, and-r, both, or-l, or-r, or-cases, true-yes, false-no, yes-true, same-yes}
+use Rattle.atoms.proofs.Truth.{and-l, and-r, both, or-l, or-r, or-cases, true-yes, yes-true, same-yes}
 use Rattle.atoms.proofs.Bits.{has-and, has-or, has-below, of-insert, with-insert, same-atoms}
 use Rattle.lpod.specs.Lists.{every, some, gather}
 use Rattle.lpod.specs.Rule.{Rule, Program, fact, raised, rules}
 use Rattle.lpod.specs.Satisfied.{allIn, someIn, noneIn}
-use Rattle.lpod.specs.Reduct.{Definite, reductHead, reductRow, reduct}
+use Rattle.lpod.specs.Reduct.{Definite, reductRow, reduct}
 use Rattle.lpod.specs.Least.{fire}
 use Rattle.lpod.specs.Degree.{place}
 use Rattle.lpod.proofs.Lists.{in-gather, gather-in, gather-append}
@@ -58,6 +58,12 @@ at-place k (c ∷ cs) I j e = go (has I c) refl j e (place-low (suc (suc k)) cs 
     go false q (suc j) e l ih = ih j (omega arith)
 
 -- ---- one row
+-- rules that wait for one body add nothing
+waiting : (l pos : List ℕ) (s t : ℕ) → allIn pos s ≡ false → fire (ifs l pos) s t ≡ t
+unfolding fire ifs
+waiting [] pos s t e = refl
+waiting (c ∷ cs) pos s t e = ap (λ (b : Bool). fire (ifs cs pos) s (cond b (insert t c) t)) e ∙ waiting cs pos s t e
+
 module _ (r : Rule) (I s t : ℕ) where
   given : fire (reductRow r I) s t ≡ fire (cond (noneIn (r .neg) I) (ifs (firstIn (r .head) I) (r .pos)) []) s t
   given = ap (λ (D : List Definite). fire D s t) (row-first r I)
@@ -68,28 +74,25 @@ module _ (r : Rule) (I s t : ℕ) where
     unfolding noneIn fire
     fire-blocked tn = sym (given ∙ rw (← en, tn))
 
-    module _ (k : ℕ) (ek : k ≡ place 1 (r .head) I) (tn : n ≡ false) where
-      -- no head atom is in the set: the row has no rule
-      pub fire-headless : k ≡ 0 → t ≡ fire (reductRow r I) s t
-      unfolding noneIn fire ifs
-      fire-headless z = sym (given ∙ rw (← en, tn, no-place 0 (r .head) I (sym ek ∙ z)))
+    module _ (tn : n ≡ false) (p : Bool) (ep : p ≡ allIn (r .pos) s) where
+      -- the positive body is not in s: the rule, if there is one, waits
+      pub fire-waits : p ≡ false → t ≡ fire (reductRow r I) s t
+      unfolding noneIn
+      fire-waits tp = sym (given ∙ rw (← en, tn) (waiting (firstIn (r .head) I) (r .pos) s t (sym ep ∙ tp)))
 
-      module _ (p : Bool) (ep : p ≡ allIn (r .pos) s) (z : k ≡ 0 → ⊥) where
-        first : firstIn (r .head) I ≡ getD (r .head) (k - 1) 0 ∷ []
-        first = let l : 1 ≤ k = omega arith in at-place 0 (r .head) I (k - 1) (sym ek ∙ omega arith) .0
-
-        -- the positive body is not in s: the rule waits
-        pub fire-waits : p ≡ false → t ≡ fire (reductRow r I) s t
-        unfolding noneIn fire ifs first
-        fire-waits tp = sym (given ∙ rw (← en, tn, first, ← ep, tp))
+      module _ (tp : p ≡ true) (k : ℕ) (ek : k ≡ place 1 (r .head) I) where
+        -- no head atom is in the set: the row has no rule
+        pub fire-headless : k ≡ 0 → t ≡ fire (reductRow r I) s t
+        unfolding noneIn fire ifs
+        fire-headless z = sym (given ∙ rw (← en, tn, no-place 0 (r .head) I (sym ek ∙ z)))
 
         -- else it gives its atom
-        pub fire-gives : p ≡ true → I < 2 ^ 16 → (a : ℕ) → a ≡ getD (r .head) (k - 1) 0 → withAtom t a ≡ fire (reductRow r I) s t
-        unfolding noneIn fire ifs first
-        fire-gives tp w a ea =
+        pub fire-gives : (k ≡ 0 → ⊥) → I < 2 ^ 16 → (a : ℕ) → a ≡ getD (r .head) (k - 1) 0 → withAtom t a ≡ fire (reductRow r I) s t
+        unfolding noneIn fire ifs
+        fire-gives z w a ea =
             let l : 1 ≤ k = omega arith in
-            let h : T (has I (getD (r .head) (k - 1) 0)) = at-place 0 (r .head) I (k - 1) (sym ek ∙ omega arith) .1 in
-            ap (withAtom t) ea ∙ with-insert t (getD (r .head) (k - 1) 0) (has-below 16 I (getD (r .head) (k - 1) 0) w h) ∙ sym (given ∙ rw (← en, tn, first, ← ep, tp))
+            let first = at-place 0 (r .head) I (k - 1) (sym ek ∙ omega arith) in
+            ap (withAtom t) ea ∙ with-insert t (getD (r .head) (k - 1) 0) (has-below 16 I (getD (r .head) (k - 1) 0) w (first .1)) ∙ sym (given ∙ rw (← en, tn, first .0, ← ep, tp))
 
 -- ---- several rows
 pub fire-append : (D E : List Definite) (s t : ℕ) → fire (D ++ E) s t ≡ fire E s (fire D s t)

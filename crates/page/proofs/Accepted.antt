@@ -1,9 +1,9 @@
--- What acceptance gives: the header's ranges, the page's length, small counts in every row, places that stay inside, atoms below A; and words
--- below 2 ^ A. Each is one of the refusals that does not hold, read back. Assumes nothing.
+-- What acceptance gives: the header's ranges, the page's length, small counts in every row, places that stay inside, atoms below A, bodies that
+-- rise. Each is one of the refusals that does not hold, read back. Assumes nothing.
 use mathlib.Core.Path.{_≡_, refl, sym, _∙_}
 use mathlib.Core.Bool.{Bool, true, false, _&&_, not, false≢true}
 use mathlib.Core.List.{List}
-use Prim.Native.Nat.{ℕ, _*_, _^_, _≤_, _<_}
+use Prim.Native.Nat.{ℕ, _*_, _≤_, _<_}
 use native.Mathlib.Omega.{arith}
 use lib.Dec.{leb, eqb}
 use lib.ListN.{length}
@@ -12,7 +12,7 @@ use Rattle.atoms.proofs.Truth.{yes-true, true-yes}
 use Rattle.lpod.specs.Lists.{every, below}
 use Rattle.lpod.proofs.Lists.{every-at, numbers-in}
 use Rattle.page.specs.Fields as fields
-use Rattle.page.specs.Program.{literals, literalPlace}
+use Rattle.page.specs.Program.{literals, literalPlace, rowsOf}
 use Rattle.page.specs.Refusals
 use Rattle.page.proofs.Refusals.{page-numbered, AllDenied, given-denied}
 use Rattle.page.proofs.Places.{place-up}
@@ -129,3 +129,8 @@ module _ (page : List ℕ) (h : Refusals.pageNo page ≡ 0) where
       let a = every (Refusals.isBelow (fields.atomCount page)) (literals page (fields.literalsAt page) (fields.literalCount page)) in
       let b = every (Refusals.isBelow (fields.atomCount page)) (literals page (fields.pairsAt page) (2 * fields.pairCount page)) in
       both-parts a b (not-false (a && b) (denials .1 .1 .1 .1 .1 .0))
+
+  -- both bodies of every row rise
+  pub bodies-rise : every Refusals.bodiesRise (rowsOf page) ≡ true
+  unfolding Refusals.pageRefusals Refusals.unsorted
+  bodies-rise = not-false (every Refusals.bodiesRise (rowsOf page)) (denials .1 .1 .1 .1 .1 .1 .0)

@@ -4,7 +4,6 @@ pub mod Words
 pub mod Places
 pub mod Accepted
 pub mod AcceptedAtoms
-pub mod Literals
 pub mod RowSteps
 pub mod ReaderSteps
 pub mod ReaderOwns

@@ -1,18 +1,24 @@
 -- What stands where, on any page: an atom of a run of literals is a byte of it; a row of the page is row s at the place of its literals; a pair
 -- is two bytes of the pairs; places rise with the rows. By induction on the run. Assumes nothing.
-use mathlib.Core.Path.{_≡_, ap, _∙_}
+use mathlib.Core.Path.{_≡_, refl, ap, _∙_}
 use mathlib.Core.Logic.{⊎-elim}
 use mathlib.Core.List.{List, List·Memᴰ, List·Memᴰ·head, List·Memᴰ·tail, List·Memᴰ·cases-cons}
 use Prim.Native.Nat.{ℕ, zero, suc, _+_, _*_, _≤_, _<_}
 use native.Mathlib.Decide.{ℕ-discrete, decLe}
 use native.Mathlib.Nat.{le-refl}
 use native.Mathlib.Omega.{arith}
+use lib.ListN.{length}
 use Rattle.lpod.specs.Rule.{Rule, Pair}
 use Rattle.page.specs.Fields.{byteAt, literalsOf}
 use Rattle.page.specs.Program.{literals, ruleAt, rowsFrom, pairsFrom, literalPlace}
 use Rattle.page.proofs.Scan.{place-next}
 
 -- ---- literals
+pub length-literals : (page : List ℕ) (i n : ℕ) → length (literals page i n) ≡ n
+unfolding literals
+length-literals page i zero = refl
+length-literals page i (suc n) = ap suc (length-literals page (i + 1) n)
+
 pub in-literals : (page : List ℕ) (i n a : ℕ) → List·Memᴰ a (literals page i n) → (k : ℕ) × ((i ≤ k) × (k < i + n) × (a ≡ byteAt page k))
 unfolding literals
 in-literals page i zero a m = elim m [ ]

@@ -4,14 +4,13 @@ use mathlib.Core.Path.{_≡_, refl, ap, _∙_}
 use mathlib.Core.List.{List, [], _∷_, map}
 use Prim.Native.Nat.{ℕ, zero, suc, _+_, _*_, _-_, _≤_, _<_}
 use native.Mathlib.Omega.{arith}
-use native.Mathlib.Nat.{sub-zero}
 use native.Mathlib.Numerals.{add-one}
 use mir.Syntax.{w8}
 use mir.Val.{Fits}
 use Rattle.lpod.specs.Lists.{numbers}
 use Rattle.lpod.specs.Rule.{Rule}
-use Rattle.page.specs.Fields.{byteAt, wordAt, rowCount, literalsAt, rowsAt, headCount, posCount, negCount, literalsOf}
-use Rattle.page.specs.Program.{ruleAt, rowsFrom, rowsOf, literalPlace}
+use Rattle.page.specs.Fields.{byteAt, wordAt, literalsAt, rowsAt, headCount, posCount, negCount, literalsOf}
+use Rattle.page.specs.Program.{ruleAt, rowsFrom, literalPlace}
 use Rattle.page.specs.Rows.{rowFrom, ruleOf, placeAfter}
 use Rattle.page.specs.declared.rows.Row.{Row}
 use Rattle.page.proofs.Scan.{rows-step, rows-none, place-next}
@@ -35,11 +34,6 @@ place-small page bytes (suc n) =
 pub at-first : (page : List ℕ) (i : ℕ) → i ≡ literalsAt page → i ≡ literalPlace page 0
 unfolding literalPlace
 at-first page i e = e
-
--- all rows are those from row 0 on
-pub rest-first : (page : List ℕ) (i rows : ℕ) → i ≡ literalsAt page → rows ≡ rowCount page → rowsOf page ≡ rowsFrom page 0 i (rows - 0)
-unfolding rowsOf
-rest-first page i rows e er = rw (e, ← er, sub-zero rows)
 
 -- the row in hand is row n, and its first literal stands at i
 module _ (page : List ℕ) (bytes : Bytes page) (n i : ℕ) (row : Row) (l : n < 65536) (at : i ≡ literalPlace page n) (e : row ≡ rowFrom page n i) where

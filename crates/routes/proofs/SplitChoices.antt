@@ -4,10 +4,11 @@
 use mathlib.Core.Path.{_≡_, refl, sym, ap, _∙_}
 use mathlib.Core.Bool.{Bool, true, false, _&&_, cond}
 use mathlib.Core.List.{List, [], _∷_, _++_, map, append-assoc}
-use Prim.Native.Nat.{ℕ, suc, _+_, _-_, _≤_, _<_, max}
+use Prim.Native.Nat.{ℕ, suc, _+_, _≤_, _<_, max}
 use native.Mathlib.Nat.{add-zero}
 use native.Mathlib.Omega.{arith}
-use lib.ListN.{length, length-append, set}
+use lib.ListN.{length, length-append, set, take}
+use lib.Seq.{take-all}
 use Rattle.atoms.specs.Atoms.{has}
 use Rattle.lpod.specs.Lists.{keep, gather, below}
 use Rattle.lpod.specs.Rule.{Rule, fact, raised, rules}
@@ -15,12 +16,11 @@ use Rattle.lpod.specs.Satisfied.{noPair}
 use Rattle.lpod.specs.Split.{Option, gives, optionsFrom, optionsOf, options, choices, splitNumber, splitAnswer, splitCount}
 use Rattle.lpod.proofs.Lists.{keep-append, keep-length}
 use Rattle.lpod.proofs.ReductIsSplit.{split-number}
-use Rattle.page.specs.Fields.{rowCount, headCount}
-use Rattle.page.specs.Program.{rowsOf, pairsOf, program}
-use Rattle.routes.specs.Choice.{rowAt, someRows, optionAt, flagOptions, programFrom, countFrom}
+use Rattle.words.specs.Coded.{rulesIn, pairsIn, programIn}
+use Rattle.routes.specs.Choice.{optionAt, flagOptions, programFrom, countFrom}
 use Rattle.routes.proofs.SplitSums.{sumOver, sumBelow, sum-same, sum-swap, below-same, below-more, below-part, options-sum}
 use Rattle.routes.proofs.SplitNumber.{row-options}
-use Rattle.routes.proofs.SplitRows.{rows-all, rows-end, rows-last, store-option, program-end}
+use Rattle.routes.proofs.SplitRows.{rowAt, rows-many, rows-last, store-option, program-end}
 
 -- ---- how many choices pass
 abbrev count : (List Option → Bool) → List Rule → ℕ
@@ -88,61 +88,67 @@ count-most : (p : List Option → Bool) (P : List Rule) → count p P ≤ splitN
 count-most p P = rw (← split-number P) (keep-length p (choices P))
 
 -- ---- the counts that the test makes
-module _ (page : List ℕ) (flags s : ℕ) where
+module _ (rows : List ℕ) (flags s : ℕ) where
   -- no row is left: the choice itself is tested
-  pub count-zero : (n : ℕ) (choice : List ℕ) (b : Bool) → n ≡ 0 → b ≡ splitAnswer (programFrom page flags 0 choice) s → cond b 1 0 ≡ countFrom page flags s n choice
+  pub count-zero : (n : ℕ) (choice : List ℕ) (b : Bool) → n ≡ 0 → b ≡ splitAnswer (programFrom (rulesIn rows) flags 0 choice) s
+      → cond b 1 0 ≡ countFrom (rulesIn rows) flags s n choice
   unfolding countFrom choices keep
-  count-zero n choice b e eb = rw (e, rows-end page 0, eb) (one (splitAnswer (programFrom page flags 0 choice) s))
+  count-zero n choice b e eb = rw (e, eb) (one (splitAnswer (programFrom (rulesIn rows) flags 0 choice) s))
     where
       one : (b : Bool) → cond b 1 0 ≡ length (cond {A = List (List Option)} b ([] ∷ []) [])
       one true = refl
       one false = refl
 
-  counted-most : (n : ℕ) (choice : List ℕ) → countFrom page flags s n choice ≤ splitNumber (someRows page 0 n)
+  counted-most : (n : ℕ) (choice : List ℕ) → countFrom (rulesIn rows) flags s n choice ≤ splitNumber (take n (rulesIn rows))
   unfolding countFrom
-  counted-most n choice = count-most (λ C. splitAnswer (C ++ programFrom page flags n choice) s) (someRows page 0 n)
+  counted-most n choice = count-most (λ C. splitAnswer (C ++ programFrom (rulesIn rows) flags n choice) s) (take n (rulesIn rows))
 
   -- with option k of row m
   abbrev pub withOption : ℕ → List ℕ → ℕ → ℕ
-  withOption m choice k = countFrom page flags s m (set choice m k)
+  withOption m choice k = countFrom (rulesIn rows) flags s m (set choice m k)
 
   -- the options of the last row, one after the other
-  module _ (n m : ℕ) (choice : List ℕ) (e : n ≡ m + 1) (h : m < rowCount page) (l : m < length choice) where
-    behind : (k : ℕ) (C : List Option) → (C ++ optionAt (rowAt page m) k ∷ []) ++ programFrom page flags n choice ≡ C ++ programFrom page flags m (set choice m k)
-    behind k C = rw (store-option page flags m k choice h l, e) (append-assoc C (optionAt (rowAt page m) k ∷ []) (programFrom page flags (m + 1) choice))
+  module _ (n m : ℕ) (choice : List ℕ) (e : n ≡ m + 1) (h : m < length rows) (l : m < length choice) where
+    behind : (k : ℕ) (C : List Option)
+        → (C ++ optionAt (rowAt rows m) k ∷ []) ++ programFrom (rulesIn rows) flags n choice ≡ C ++ programFrom (rulesIn rows) flags m (set choice m k)
+    behind k C =
+        rw (store-option rows flags m k choice h l, e) (append-assoc C (optionAt (rowAt rows m) k ∷ []) (programFrom (rulesIn rows) flags (m + 1) choice))
 
-    pub count-step : countFrom page flags s n choice ≡ sumBelow (max 1 (headCount page m)) (withOption m choice)
+    pub count-step : countFrom (rulesIn rows) flags s n choice ≡ sumBelow (max 1 (length (rowAt rows m .head))) (withOption m choice)
     unfolding countFrom
     count-step =
-        ap (count (λ C. splitAnswer (C ++ programFrom page flags n choice) s)) (rows-last page n m e)
-        ∙ count-last (λ C. splitAnswer (C ++ programFrom page flags n choice) s) (someRows page 0 m) (rowAt page m)
-        ∙ options-sum (rowAt page m) (λ o. count (λ C. splitAnswer ((C ++ o ∷ []) ++ programFrom page flags n choice) s) (someRows page 0 m))
-        ∙ rw (row-options page m)
-        (below-same (max 1 (headCount page m)) _ (withOption m choice)
-        (λ k. count-same _ (λ C. splitAnswer (C ++ programFrom page flags m (set choice m k)) s) (someRows page 0 m) (λ C. ap (λ D. splitAnswer D s) (behind k C))))
+        ap (count (λ C. splitAnswer (C ++ programFrom (rulesIn rows) flags n choice) s)) (rows-last rows m h n e)
+        ∙ count-last (λ C. splitAnswer (C ++ programFrom (rulesIn rows) flags n choice) s) (take m (rulesIn rows)) (rowAt rows m)
+        ∙ options-sum (rowAt rows m) (λ o. count (λ C. splitAnswer ((C ++ o ∷ []) ++ programFrom (rulesIn rows) flags n choice) s) (take m (rulesIn rows)))
+        ∙ rw (row-options (rowAt rows m .head))
+        (below-same (max 1 (length (rowAt rows m .head))) _ (withOption m choice)
+        (λ k. count-same _ (λ C. splitAnswer (C ++ programFrom (rulesIn rows) flags m (set choice m k)) s) (take m (rulesIn rows))
+        (λ C. ap (λ D. splitAnswer D s) (behind k C))))
 
     -- the counts so far and the next one are no more than there are split programs
-    pub count-room : (k : ℕ) → k < max 1 (headCount page m) → sumBelow k (withOption m choice) + withOption m choice k ≤ splitNumber (someRows page 0 n)
+    pub count-room : (k : ℕ) → k < max 1 (length (rowAt rows m .head))
+        → sumBelow k (withOption m choice) + withOption m choice k ≤ splitNumber (take n (rulesIn rows))
     count-room k lk =
-        let a : sumBelow (k + 1) (withOption m choice) ≤ sumBelow (max 1 (headCount page m)) (withOption m choice)
-        = below-part (k + 1) (max 1 (headCount page m)) _ (omega arith) in
+        let a : sumBelow (k + 1) (withOption m choice) ≤ sumBelow (max 1 (length (rowAt rows m .head))) (withOption m choice)
+        = below-part (k + 1) (max 1 (length (rowAt rows m .head))) _ (omega arith) in
         let b = below-more k (withOption m choice) in
         let c = count-step in
         let d = counted-most n choice in
         omega arith
 
-  -- all rows, and none behind them but the flags'
-  pub count-whole : (r n : ℕ) (choice : List ℕ) → r ≡ countFrom page flags s n choice → n ≡ rowCount page → noPair (pairsOf page) s ≡ true
-      → r ≡ splitCount (program page flags) s
-  unfolding countFrom splitCount rules program raised flagOptions
-  count-whole r n choice er en e =
-      er ∙ rw (en, program-end page flags choice, ← rows-all page)
-      (sym (count-same _ (λ C. splitAnswer C s) (rowsOf page ++ map fact (keep (has flags) (below 16))) (λ C. ap (λ b. b && splitAnswer C s) e)
-      ∙ count-facts (λ C. splitAnswer C s) (rowsOf page) (keep (has flags) (below 16))))
+  module _ (pairs : List ℕ) where
+    -- all rows, and none behind them but the flags'
+    pub count-whole : (r n : ℕ) (choice : List ℕ) → r ≡ countFrom (rulesIn rows) flags s n choice → n ≡ length rows → noPair (pairsIn pairs) s ≡ true
+        → r ≡ splitCount (programIn rows pairs flags) s
+    unfolding countFrom splitCount rules programIn raised flagOptions
+    count-whole r n choice er en e =
+        er ∙ rw (program-end rows flags n choice (omega arith), take-all n (rulesIn rows) (omega (arith, rows-many rows)))
+        (sym (count-same _ (λ C. splitAnswer C s) (rulesIn rows ++ map fact (keep (has flags) (below 16))) (λ C. ap (λ b. b && splitAnswer C s) e)
+        ∙ count-facts (λ C. splitAnswer C s) (rulesIn rows) (keep (has flags) (below 16))))
 
-  -- a set that holds a pair is an answer set of none
-  pub count-paired : noPair (pairsOf page) s ≡ false → 0 ≡ splitCount (program page flags) s
-  unfolding splitCount program
-  count-paired e =
-      sym (count-same _ (λ C. false) (rules (program page flags)) (λ C. ap (λ b. b && splitAnswer C s) e)
-      ∙ ap length (keep-none (choices (rules (program page flags)))))
+    -- a set that holds a pair is an answer set of none
+    pub count-paired : noPair (pairsIn pairs) s ≡ false → 0 ≡ splitCount (programIn rows pairs flags) s
+    unfolding splitCount programIn
+    count-paired e =
+        sym (count-same _ (λ C. false) (rules (programIn rows pairs flags)) (λ C. ap (λ b. b && splitAnswer C s) e)
+        ∙ ap length (keep-none (choices (rules (programIn rows pairs flags)))))

@@ -1,38 +1,29 @@
 -- The number of split programs: the product of the option counts, row by row. It is never 0, so that a part of the product is at most the whole, and
 -- the rows that flags add leave it as it is. By induction on the rows. Assumes nothing.
-use mathlib.Core.Path.{_≡_, refl, sym, ap, _∙_}
+use mathlib.Core.Path.{_≡_, refl, sym, _∙_}
 use mathlib.Core.Bool.{true, false}
 use mathlib.Core.List.{List, [], _∷_, _++_, map}
-use Prim.Native.Nat.{ℕ, zero, suc, _+_, _*_, _-_, _≤_, _<_, max}
+use Prim.Native.Nat.{ℕ, _+_, _*_, _≤_, _<_, max}
 use native.Mathlib.Nat.{mul-assoc, mul-one, one-mul, mul-pos, mul-le-mul, le-mul-of-pos-right}
 use native.Mathlib.Omega.{arith}
 use lib.Dec.{ltb}
-use lib.ListN.{length}
+use lib.ListN.{length, getD, take, drop}
 use borrow.Author.Tests.{lt-ltb, le-ltb}
 use Rattle.atoms.specs.Atoms.{has}
 use Rattle.lpod.specs.Lists.{keep, below}
 use Rattle.lpod.specs.Rule.{Rule, fact, raised, rules}
 use Rattle.lpod.specs.Split.{optionCount, splitNumber}
-use Rattle.page.specs.Fields.{rowCount, headCount}
-use Rattle.page.specs.Program.{literals, ruleAt, rowsOf, program}
-use Rattle.routes.specs.Choice.{rowAt, someRows}
+use Rattle.page.specs.Program.{rowsOf, program}
+use Rattle.words.specs.Coded.{ruleIn, rulesIn}
+use Rattle.words.proofs.Rest.{rest-step, rest-none}
 use Rattle.routes.specs.Split.{tooMany}
-use Rattle.routes.proofs.SplitRows.{rows-next, rows-end, rows-last, rows-whole}
+use Rattle.routes.proofs.SplitRows.{rowAt, rows-last}
 
 -- ---- one row
-run-length : (page : List ℕ) (i n : ℕ) → length (literals page i n) ≡ n
-unfolding literals
-run-length page i zero = refl
-run-length page i (suc n) = ap suc (run-length page (i + 1) n)
-
-run-options : (page : List ℕ) (i n : ℕ) → optionCount (literals page i n) ≡ max 1 n
-unfolding literals optionCount
-run-options page i zero = refl
-run-options page i (suc n) = omega (arith, run-length page (i + 1) n)
-
-pub row-options : (page : List ℕ) (n : ℕ) → optionCount (rowAt page n .head) ≡ max 1 (headCount page n)
-unfolding rowAt ruleAt
-row-options page n = run-options page _ (headCount page n)
+pub row-options : (hs : List ℕ) → optionCount hs ≡ max 1 (length hs)
+unfolding optionCount
+row-options [] = refl
+row-options (c ∷ cs) = omega arith
 
 -- ---- rows
 options-some : (hs : List ℕ) → 0 < optionCount hs
@@ -61,34 +52,32 @@ unfolding rules program raised
 number-flags page flags = number-append (rowsOf page) (map fact (keep (has flags) (below 16))) ∙ rw (number-facts (keep (has flags) (below 16)), mul-one)
 
 -- with one row fewer there are no more
-pub number-down : (page : List ℕ) (n m : ℕ) → n ≡ m + 1 → splitNumber (someRows page 0 m) ≤ splitNumber (someRows page 0 n)
-number-down page n m e =
-    rw (rows-last page n m e, number-append (someRows page 0 m) (rowAt page m ∷ []))
-    (le-mul-of-pos-right (splitNumber (someRows page 0 m)) (number-some (rowAt page m ∷ [])))
+pub number-down : (rows : List ℕ) (n m : ℕ) → n ≡ m + 1 → m < length rows → splitNumber (take m (rulesIn rows)) ≤ splitNumber (take n (rulesIn rows))
+number-down rows n m e h =
+    rw (rows-last rows m h n e, number-append (take m (rulesIn rows)) (rowAt rows m ∷ []))
+    (le-mul-of-pos-right (splitNumber (take m (rulesIn rows))) (number-some (rowAt rows m ∷ [])))
 
 -- ---- the product so far, and that of the rows left
-pub number-first : (page : List ℕ) (rows : ℕ) → rows ≡ rowCount page → splitNumber (rowsOf page) ≡ 1 * splitNumber (someRows page 0 (rows - 0))
-number-first page rows e = rw (e, rows-whole page, one-mul)
+pub number-first : (rows : List ℕ) → splitNumber (rulesIn rows) ≡ 1 * splitNumber (map ruleIn (drop 0 rows))
+unfolding rulesIn
+number-first rows = rw one-mul
 
-module _ (page : List ℕ) (n rows number : ℕ) (e : splitNumber (rowsOf page) ≡ number * splitNumber (someRows page n (rows - n))) where
-  pub number-next : (options : ℕ) → n < rows → options ≡ max 1 (headCount page n)
-      → splitNumber (rowsOf page) ≡ number * options * splitNumber (someRows page (n + 1) (rows - (n + 1)))
+module _ (rows : List ℕ) (n number : ℕ) (e : splitNumber (rulesIn rows) ≡ number * splitNumber (map ruleIn (drop n rows))) where
+  pub number-next : (options : ℕ) → n < length rows → options ≡ max 1 (length (rowAt rows n .head))
+      → splitNumber (rulesIn rows) ≡ number * options * splitNumber (map ruleIn (drop (n + 1) rows))
   unfolding splitNumber
-  number-next options h eo =
-      let z : rows - n ≡ suc (rows - (n + 1)) = omega arith in
-      e ∙ rw (z, rows-next page n (rows - (n + 1)), row-options page n, ← eo, mul-assoc)
+  number-next options h eo = e ∙ rw (rest-step ruleIn rows n h (getD rows n 0) refl, row-options (rowAt rows n .head), ← eo, mul-assoc)
 
-  pub number-end : rows ≤ n → number ≤ 4096 → false ≡ ltb 4096 (splitNumber (rowsOf page))
+  pub number-end : length rows ≤ n → number ≤ 4096 → false ≡ ltb 4096 (splitNumber (rulesIn rows))
   unfolding splitNumber
   number-end h l =
-      let z : rows - n ≡ 0 = omega arith in
-      let q : splitNumber (rowsOf page) ≡ number = e ∙ rw (z, rows-end page n, mul-one) in
-      sym (le-ltb 4096 (splitNumber (rowsOf page)) (omega arith))
+      let q : splitNumber (rulesIn rows) ≡ number = e ∙ rw (rest-none ruleIn rows n h, mul-one) in
+      sym (le-ltb 4096 (splitNumber (rulesIn rows)) (omega arith))
 
-  pub number-stop : 4096 < number → true ≡ ltb 4096 (splitNumber (rowsOf page))
+  pub number-stop : 4096 < number → true ≡ ltb 4096 (splitNumber (rulesIn rows))
   number-stop h =
-      let l = le-mul-of-pos-right number (number-some (someRows page n (rows - n))) in
-      sym (lt-ltb 4096 (splitNumber (rowsOf page)) (omega arith))
+      let l = le-mul-of-pos-right number (number-some (map ruleIn (drop n rows))) in
+      sym (lt-ltb 4096 (splitNumber (rulesIn rows)) (omega arith))
 
 -- so it stays small enough to be multiplied once more
 pub number-small : (number options : ℕ) → number ≤ 4096 → options < 256 → number * options ≤ 4096 * 255

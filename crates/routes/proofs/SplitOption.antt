@@ -4,11 +4,11 @@ use mathlib.Core.Path.{_≡_, refl, sym, ap, _∙_}
 use mathlib.Core.Bool.{Bool, true, false, _&&_, _||_, not, cond, and-false}
 use mathlib.Core.Logic.{_⊎_, inl, inr, ⊎-elim}
 use mathlib.Core.List.{List, [], _∷_, _++_}
-use Prim.Native.Nat.{ℕ, zero, suc, _+_, _≤_, _<_}
+use Prim.Native.Nat.{ℕ, zero, suc, _+_, _/_, _≤_, _<_}
 use native.Mathlib.Nat.{le-refl, zero-add}
 use native.Mathlib.Omega.{arith}
 use lib.Dec.{ltb, leb}
-use lib.ListN.{getD, take}
+use lib.ListN.{length, getD, take}
 use lib.Seq.{take-nil}
 use borrow.Author.Tests.{le-leb, lt-leb, lt-ltb}
 use Rattle.atoms.specs.Atoms.{has, insert, withAtom}
@@ -20,9 +20,7 @@ use Rattle.lpod.specs.Degree.{place}
 use Rattle.lpod.specs.Least.{fire}
 use Rattle.lpod.specs.Split.{gives, bars, glRow, barHolds}
 use Rattle.lpod.proofs.Lists.{some-append}
-use Rattle.page.specs.Program.{literals}
-use Rattle.page.specs.Rows.{ruleOf}
-use Rattle.page.specs.declared.rows.Row.{Row}
+use Rattle.words.specs.Coded.{ruleIn, digits}
 use Rattle.routes.specs.Choice.{optionIn, optionAt, barRow}
 
 -- ---- the head atoms before k
@@ -60,21 +58,35 @@ pub some-before : (l : List ℕ) (k s : ℕ) → someIn (take k l) s ≡ upTo (p
 some-before l k s = some-from l k 0 s ∙ ap (upTo (place 1 l s)) (zero-add k)
 
 -- ---- an option read off a row's head
-headed-in : (page : List ℕ) (i n k : ℕ) (r : Rule) → 0 < n
-    → optionIn r k (literals page i n) ≡ gives (getD (literals page i n) k 0) (r .pos) (r .neg ++ take k (literals page i n))
-unfolding optionIn literals
-headed-in page i zero k r h = absurd (omega arith)
-headed-in page i (suc n) k r h = refl
+module _ (r : Rule) (k : ℕ) where
+  headed-in : (hs : List ℕ) → 0 < length hs → optionIn r k hs ≡ gives (getD hs k 0) (r .pos) (r .neg ++ take k hs)
+  unfolding optionIn
+  headed-in [] h = absurd (omega arith)
+  headed-in (c ∷ cs) h = refl
 
-module _ (page : List ℕ) (row : Row) (k : ℕ) where
-  pub headed : 0 < row .head
-      → optionAt (ruleOf page row) k ≡ gives (getD (ruleOf page row .head) k 0) (ruleOf page row .pos) (ruleOf page row .neg ++ take k (ruleOf page row .head))
-  unfolding optionAt ruleOf
-  headed h = headed-in page (row .place) (row .head) k (ruleOf page row) h
+  pub headed : 0 < length (r .head) → optionAt r k ≡ gives (getD (r .head) k 0) (r .pos) (r .neg ++ take k (r .head))
+  unfolding optionAt
+  headed h = headed-in (r .head) h
 
-  pub headless : row .head ≡ 0 → optionAt (ruleOf page row) k ≡ bars (ruleOf page row .pos) (ruleOf page row .neg)
-  unfolding optionAt optionIn ruleOf literals
-  headless e = rw e
+  headless-in : (hs : List ℕ) → length hs ≡ 0 → optionIn r k hs ≡ bars (r .pos) (r .neg)
+  unfolding optionIn
+  headless-in [] e = refl
+  headless-in (c ∷ cs) e = absurd (omega arith)
+
+  pub headless : length (r .head) ≡ 0 → optionAt r k ≡ bars (r .pos) (r .neg)
+  unfolding optionAt
+  headless e = headless-in (r .head) e
+
+-- a head atom in a word is an atom of 16 bits
+digits-small : (n h k : ℕ) → getD (digits n h) k 0 < 16
+unfolding digits
+digits-small zero h k = omega arith
+digits-small (suc n) h zero = omega arith
+digits-small (suc n) h (suc k) = digits-small n (h / 16) k
+
+pub head-small : (row k : ℕ) → getD (ruleIn row .head) k 0 < 16
+unfolding ruleIn
+head-small row k = digits-small _ _ k
 
 -- ---- what it adds
 -- nothing where it is barred, else its atom where the positive body is in s
@@ -87,35 +99,35 @@ gives-fire a pos neg set s t = go (someIn neg set)
     go false = refl
 
 -- the row in hand, with what the code has of it: the negative body's answer, the first head atom's place, the positive body's answer
-module _ (page : List ℕ) (row : Row) (k set s t : ℕ) where
-  pub fire-headless : row .head ≡ 0 → t ≡ fire (glRow set (optionAt (ruleOf page row) k)) s t
+module _ (r : Rule) (k set s t : ℕ) where
+  pub fire-headless : length (r .head) ≡ 0 → t ≡ fire (glRow set (optionAt r k)) s t
   unfolding glRow fire
-  fire-headless e = rw (headless page row k e)
+  fire-headless e = rw (headless r k e)
 
-  module _ (h : 0 < row .head) (neg : Bool) (first : ℕ) (en : neg ≡ someIn (ruleOf page row .neg) set) (ef : first ≡ place 1 (ruleOf page row .head) set) where
-    barred : someIn (ruleOf page row .neg ++ take k (ruleOf page row .head)) set ≡ (neg || upTo first k)
+  module _ (h : 0 < length (r .head)) (neg : Bool) (first : ℕ) (en : neg ≡ someIn (r .neg) set) (ef : first ≡ place 1 (r .head) set) where
+    barred : someIn (r .neg ++ take k (r .head)) set ≡ (neg || upTo first k)
     unfolding someIn
-    barred = some-append (has set) (ruleOf page row .neg) (take k (ruleOf page row .head)) ∙ rw (en, ef, some-before (ruleOf page row .head) k set)
+    barred = some-append (has set) (r .neg) (take k (r .head)) ∙ rw (en, ef, some-before (r .head) k set)
 
     -- what it adds, whatever the positive body says
-    fires : fire (glRow set (optionAt (ruleOf page row) k)) s t
-        ≡ cond (neg || upTo first k) t (cond (allIn (ruleOf page row .pos) s) (insert t (getD (ruleOf page row .head) k 0)) t)
-    fires = rw (headed page row k h, gives-fire, barred)
+    fires : fire (glRow set (optionAt r k)) s t
+        ≡ cond (neg || upTo first k) t (cond (allIn (r .pos) s) (insert t (getD (r .head) k 0)) t)
+    fires = rw (headed r k h, gives-fire, barred)
 
-    pub fire-denied : neg ≡ true → t ≡ fire (glRow set (optionAt (ruleOf page row) k)) s t
+    pub fire-denied : neg ≡ true → t ≡ fire (glRow set (optionAt r k)) s t
     fire-denied e = sym (fires ∙ rw e)
 
     module _ (e : neg ≡ false) where
-      pub fire-earlier : upTo first k ≡ true → t ≡ fire (glRow set (optionAt (ruleOf page row) k)) s t
+      pub fire-earlier : upTo first k ≡ true → t ≡ fire (glRow set (optionAt r k)) s t
       fire-earlier u = sym (fires ∙ rw (e, u))
 
-      module _ (u : upTo first k ≡ false) (pos : Bool) (ep : pos ≡ allIn (ruleOf page row .pos) s) where
-        pub fire-missed : pos ≡ false → t ≡ fire (glRow set (optionAt (ruleOf page row) k)) s t
+      module _ (u : upTo first k ≡ false) (pos : Bool) (ep : pos ≡ allIn (r .pos) s) where
+        pub fire-missed : pos ≡ false → t ≡ fire (glRow set (optionAt r k)) s t
         fire-missed z = sym (fires ∙ rw (e, u, ← ep, z))
 
-        pub fire-added : pos ≡ true → (a : ℕ) → a ≡ getD (ruleOf page row .head) k 0 → getD (ruleOf page row .head) k 0 < 16
-            → withAtom t a ≡ fire (glRow set (optionAt (ruleOf page row) k)) s t
-        fire-added z a ea l = ap (withAtom t) ea ∙ with-insert t (getD (ruleOf page row .head) k 0) l ∙ sym (fires ∙ rw (e, u, ← ep, z))
+        pub fire-added : pos ≡ true → (a : ℕ) → a ≡ getD (r .head) k 0 → getD (r .head) k 0 < 16
+            → withAtom t a ≡ fire (glRow set (optionAt r k)) s t
+        fire-added z a ea l = ap (withAtom t) ea ∙ with-insert t (getD (r .head) k 0) l ∙ sym (fires ∙ rw (e, u, ← ep, z))
 
 -- ---- rows without head
 -- whichever option of a row is taken, what it asks of the set itself is the same
@@ -127,11 +139,11 @@ bar-any r k s = go (r .head)
     go [] = refl
     go (c ∷ cs) = refl
 
-module _ (page : List ℕ) (row : Row) (s : ℕ) where
-  pub bar-headed : 0 < row .head → true ≡ barRow s (ruleOf page row)
+module _ (r : Rule) (s : ℕ) where
+  pub bar-headed : 0 < length (r .head) → true ≡ barRow s r
   unfolding barRow barHolds
-  bar-headed h = rw (headed page row 0 h)
+  bar-headed h = rw (headed r 0 h)
 
-  pub bar-headless : row .head ≡ 0 → (b : Bool) → b ≡ bodyHolds (ruleOf page row) s → not b ≡ barRow s (ruleOf page row)
+  pub bar-headless : length (r .head) ≡ 0 → (b : Bool) → b ≡ bodyHolds r s → not b ≡ barRow s r
   unfolding barRow barHolds bodyHolds
-  bar-headless e b eb = rw (headless page row 0 e, eb)
+  bar-headless e b eb = rw (headless r 0 e, eb)

@@ -3,7 +3,7 @@
 use mathlib.Core.Path.{_≡_, refl, sym, ap, _∙_, subst}
 use mathlib.Core.Bool.{Bool, true, false, _||_, and-true, or-false, or-assoc}
 use mathlib.Core.List.{List, [], _∷_, _++_, map}
-use Prim.Native.Nat.{ℕ, _+_, _-_, _^_, _<_}
+use Prim.Native.Nat.{ℕ, _+_, _^_, _<_}
 use native.Mathlib.Omega.{arith}
 use lib.Dec.{T, eqb, eqb→eq, eqb-refl}
 use lib.ListN.{getD}
@@ -18,11 +18,8 @@ use Rattle.lpod.specs.Least.{fire, least}
 use Rattle.lpod.specs.Split.{Option, gives, glRow, glReduct, barHolds, splitAnswer}
 use Rattle.lpod.proofs.Lists.{every-append, some-at, some-made, keep-in, in-keep, numbers-in, gather-append}
 use Rattle.lpod.proofs.Firing.{fire-append}
-use Rattle.page.specs.Fields.{rowCount}
-use Rattle.page.specs.Program.{rowsOf}
-use Rattle.routes.specs.Choice.{someRows, optionAt, barRow, taken, flagOptions, programFrom}
+use Rattle.routes.specs.Choice.{optionAt, barRow, taken, flagOptions, programFrom}
 use Rattle.routes.proofs.SplitOption.{bar-any}
-use Rattle.routes.proofs.SplitRows.{rows-whole}
 
 fire-joined : (C E : List Option) (set s t : ℕ) → fire (glReduct (C ++ E) set) s t ≡ fire (glReduct E set) s (fire (glReduct C set) s t)
 unfolding glReduct
@@ -62,12 +59,10 @@ flags-fire flags set s t h =
     same-atoms _ (union t flags) (λ i. given-atoms (keep (has flags) (below 16)) set s t i ∙ rw (listed flags i h) (sym (has-or t flags i)))
 
 -- the whole round: the rows' options, then the flags
-pub round-flags : (page : List ℕ) (flags set s t : ℕ) (choice : List ℕ) → flags < 2 ^ 16 → fire (glReduct (taken (rowsOf page) 0 choice) set) s s ≡ t
-    → union t flags ≡ fire (glReduct (programFrom page flags 0 choice) set) s s
+pub round-flags : (P : List Rule) (flags set s t : ℕ) (choice : List ℕ) → flags < 2 ^ 16 → fire (glReduct (taken P 0 choice) set) s s ≡ t
+    → union t flags ≡ fire (glReduct (programFrom P flags 0 choice) set) s s
 unfolding programFrom
-round-flags page flags set s t choice h e = sym (
-    ap (λ (P : List Rule). fire (glReduct (taken P 0 choice ++ flagOptions flags) set) s s) (rows-whole page)
-    ∙ fire-joined (taken (rowsOf page) 0 choice) (flagOptions flags) set s s ∙ flags-fire flags set s _ h ∙ rw e)
+round-flags P flags set s t choice h e = sym (fire-joined (taken P 0 choice) (flagOptions flags) set s s ∙ flags-fire flags set s _ h ∙ rw e)
 
 -- ---- the rows without head
 bars-taken : (P : List Rule) (n s : ℕ) (choice : List ℕ) → every (barHolds s) (taken P n choice) ≡ every (barRow s) P
@@ -80,18 +75,18 @@ unfolding every barHolds
 bars-flags [] s = refl
 bars-flags (a ∷ l) s = bars-flags l s
 
-bars-program : (page : List ℕ) (flags s : ℕ) (choice : List ℕ) → every (barHolds s) (programFrom page flags 0 choice) ≡ every (barRow s) (rowsOf page)
+bars-program : (P : List Rule) (flags s : ℕ) (choice : List ℕ) → every (barHolds s) (programFrom P flags 0 choice) ≡ every (barRow s) P
 unfolding programFrom flagOptions
-bars-program page flags s choice =
-    every-append (barHolds s) (taken (someRows page 0 (rowCount page - 0)) 0 choice) (map (λ a. gives a [] []) (keep (has flags) (below 16)))
-    ∙ rw (bars-flags (keep (has flags) (below 16)) s, and-true, bars-taken (someRows page 0 (rowCount page - 0)) 0 s choice, rows-whole page)
+bars-program P flags s choice =
+    every-append (barHolds s) (taken P 0 choice) (map (λ a. gives a [] []) (keep (has flags) (below 16)))
+    ∙ rw (bars-flags (keep (has flags) (below 16)) s, and-true, bars-taken P 0 s choice)
 
 -- ---- the set against a chosen split program
-module _ (page : List ℕ) (flags s : ℕ) (choice : List ℕ) (b : Bool) (eb : b ≡ every (barRow s) (rowsOf page)) where
-  pub answer-barred : b ≡ false → false ≡ splitAnswer (programFrom page flags 0 choice) s
+module _ (P : List Rule) (flags s : ℕ) (choice : List ℕ) (b : Bool) (eb : b ≡ every (barRow s) P) where
+  pub answer-barred : b ≡ false → false ≡ splitAnswer (programFrom P flags 0 choice) s
   unfolding splitAnswer
-  answer-barred e = rw (bars-program page flags s choice, ← eb, e)
+  answer-barred e = rw (bars-program P flags s choice, ← eb, e)
 
-  pub answer-least : b ≡ true → (l : ℕ) → l ≡ least (glReduct (programFrom page flags 0 choice) s) → eqb l s ≡ splitAnswer (programFrom page flags 0 choice) s
+  pub answer-least : b ≡ true → (l : ℕ) → l ≡ least (glReduct (programFrom P flags 0 choice) s) → eqb l s ≡ splitAnswer (programFrom P flags 0 choice) s
   unfolding splitAnswer
-  answer-least e l el = rw (bars-program page flags s choice, ← eb, e, el)
+  answer-least e l el = rw (bars-program P flags s choice, ← eb, e, el)

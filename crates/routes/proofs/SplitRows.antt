@@ -1,62 +1,38 @@
--- The rows of a page by their numbers: the row in hand and those after it, the first rows and the next one; and the options that a choice takes
--- for them. A store into the choice below row n leaves the options from row n on. By induction on the rows. Assumes nothing.
-use mathlib.Core.Path.{_≡_, refl, sym, ap, _∙_}
-use mathlib.Core.List.{List, [], _∷_, _++_, List·Memᴰ, List·Memᴰ·head, List·Memᴰ·tail}
-use Prim.Native.Nat.{ℕ, zero, suc, _+_, _-_, _≤_, _<_}
-use native.Mathlib.Nat.{add-zero, zero-add, sub-zero, sub-self}
-use native.Mathlib.Decide.{ℕ-discrete}
+-- Rows in words by their numbers: the row in hand and those after it, the first rows and the next one; and the options that a choice takes for
+-- them. A store into the choice below row n leaves the options from row n on. By induction on the rows. Assumes nothing.
+use mathlib.Core.Path.{_≡_, refl, _∙_}
+use mathlib.Core.List.{List, [], _∷_, _++_}
+use Prim.Native.Nat.{ℕ, _+_, _≤_, _<_}
 use native.Mathlib.Numerals.{add-one}
 use native.Mathlib.Omega.{arith}
-use lib.ListN.{length, getD, set}
-use lib.Seq.{getD-set-same, getD-set-other}
+use lib.ListN.{length, getD, set, take, drop, length-map, List·getD-map, drop-of-length-le}
+use lib.Seq.{drop-cons, take-suc, getD-set-same, getD-set-other}
 use Rattle.lpod.specs.Rule.{Rule}
-use Rattle.page.specs.Fields.{rowCount}
-use Rattle.page.specs.Program.{rowsFrom, rowsOf, literalPlace}
-use Rattle.page.specs.Rows.{rowFrom, ruleOf}
-use Rattle.page.specs.declared.rows.Row.{Row}
-use Rattle.page.proofs.Scan.{place-next}
-use Rattle.page.proofs.RowSteps.{rule-from}
-use Rattle.routes.specs.Choice.{rowAt, someRows, optionAt, taken, flagOptions, programFrom}
+use Rattle.words.specs.Coded.{ruleIn, rulesIn}
+use Rattle.routes.specs.Choice.{optionAt, taken, flagOptions, programFrom}
 
 -- ---- rows by number
-pub rows-all : (page : List ℕ) → rowsOf page ≡ someRows page 0 (rowCount page)
-unfolding rowsOf someRows literalPlace
-rows-all page = refl
+abbrev pub rowAt : List ℕ → ℕ → Rule
+rowAt rows n = ruleIn (getD rows n 0)
 
-pub rows-whole : (page : List ℕ) → someRows page 0 (rowCount page - 0) ≡ rowsOf page
-rows-whole page = ap (someRows page 0) (sub-zero (rowCount page)) ∙ sym (rows-all page)
+pub rows-many : (rows : List ℕ) → length (rulesIn rows) ≡ length rows
+unfolding rulesIn
+rows-many rows = length-map rows ruleIn
 
-pub rows-next : (page : List ℕ) (n m : ℕ) → someRows page n (suc m) ≡ rowAt page n ∷ someRows page (n + 1) m
-unfolding someRows rowAt rowsFrom
-rows-next page n m = rw (place-next page n)
+module _ (rows : List ℕ) (n : ℕ) (h : n < length rows) where
+  there : n < length (rulesIn rows)
+  there = omega (arith, rows-many rows)
 
-pub rows-end : (page : List ℕ) (n : ℕ) → someRows page n 0 ≡ []
-unfolding someRows rowsFrom
-rows-end page n = refl
+  at-place : getD (rulesIn rows) n (ruleIn 0) ≡ rowAt rows n
+  unfolding rulesIn
+  at-place = List·getD-map ruleIn rows n 0
 
--- one row more: those before it, and that row
-rows-snoc : (page : List ℕ) (n m : ℕ) → someRows page n (suc m) ≡ someRows page n m ++ rowAt page (n + m) ∷ []
-rows-snoc page n zero = rw (rows-next page n 0, rows-end page n, rows-end page (n + 1), add-zero n)
-rows-snoc page n (suc m) =
-    let e : n + 1 + m ≡ n + suc m = omega arith in
-    rw (rows-next page n (suc m), rows-next page n m, rows-snoc page (n + 1) m, e)
+  pub rows-next : drop n (rulesIn rows) ≡ rowAt rows n ∷ drop (n + 1) (rulesIn rows)
+  rows-next = drop-cons (rulesIn rows) n (ruleIn 0) there ∙ rw (at-place, add-one)
 
-pub rows-last : (page : List ℕ) (n m : ℕ) → n ≡ m + 1 → someRows page 0 n ≡ someRows page 0 m ++ rowAt page m ∷ []
-rows-last page n m e = rw (e, add-one m, rows-snoc page 0 m, zero-add m)
-
-pub rows-in : (page : List ℕ) (m k n : ℕ) → m ≤ n → n < m + k → List·Memᴰ (rowAt page n) (someRows page m k)
-rows-in page m zero n l h = absurd (omega arith)
-rows-in page m (suc k) n l h = rw (rows-next page m k) (go (ℕ-discrete n m) (rows-in page (m + 1) k n))
-  where
-    go : Dec (n ≡ m) → (m + 1 ≤ n → n < m + 1 + k → List·Memᴰ (rowAt page n) (someRows page (m + 1) k))
-        → List·Memᴰ (rowAt page n) (rowAt page m ∷ someRows page (m + 1) k)
-    go (yes e) rest = List·Memᴰ·head (ap (rowAt page) e)
-    go (no e) rest = List·Memᴰ·tail (rest (omega arith) (omega arith))
-
--- the row in hand, as code reads it, is row n
-pub row-here : (page : List ℕ) (n i : ℕ) (row : Row) → i ≡ literalPlace page n → row ≡ rowFrom page n i → ruleOf page row ≡ rowAt page n
-unfolding rowAt
-row-here page n i row at e = rule-from page n i row e ∙ rw at
+  -- one row more: those before it, and that row
+  pub rows-last : (m : ℕ) → m ≡ n + 1 → take m (rulesIn rows) ≡ take n (rulesIn rows) ++ rowAt rows n ∷ []
+  rows-last m e = rw (e, add-one) (take-suc (rulesIn rows) n (ruleIn 0) there ∙ rw at-place)
 
 -- ---- the options of a choice
 pub taken-below : (P : List Rule) (n m k : ℕ) (choice : List ℕ) → m < n → taken P n (set choice m k) ≡ taken P n choice
@@ -67,15 +43,15 @@ taken-below (r ∷ P) n m k choice h =
     rw (e, taken-below P (n + 1) m k choice (omega arith))
 
 -- storing option k of row n puts that option in front of those from the next row on
-pub store-option : (page : List ℕ) (flags n k : ℕ) (choice : List ℕ) → n < rowCount page → n < length choice
-    → programFrom page flags n (set choice n k) ≡ optionAt (rowAt page n) k ∷ programFrom page flags (n + 1) choice
+pub store-option : (rows : List ℕ) (flags n k : ℕ) (choice : List ℕ) → n < length rows → n < length choice
+    → programFrom (rulesIn rows) flags n (set choice n k) ≡ optionAt (rowAt rows n) k ∷ programFrom (rulesIn rows) flags (n + 1) choice
 unfolding programFrom taken
-store-option page flags n k choice h l =
-    let e : rowCount page - n ≡ suc (rowCount page - (n + 1)) = omega arith in
-    let rest = taken-below (someRows page (n + 1) (rowCount page - (n + 1))) (n + 1) n k choice (omega arith) in
-    rw (e, rows-next page n (rowCount page - (n + 1)), getD-set-same choice n k 0, rest)
+store-option rows flags n k choice h l =
+    rw (rows-next rows n h, getD-set-same choice n k 0, taken-below (drop (n + 1) (rulesIn rows)) (n + 1) n k choice (omega arith))
 
 -- behind the last row only the flags' options are left
-pub program-end : (page : List ℕ) (flags : ℕ) (choice : List ℕ) → programFrom page flags (rowCount page) choice ≡ flagOptions flags
+pub program-end : (rows : List ℕ) (flags n : ℕ) (choice : List ℕ) → length rows ≤ n → programFrom (rulesIn rows) flags n choice ≡ flagOptions flags
 unfolding programFrom taken
-program-end page flags choice = rw (sub-self, rows-end page (rowCount page))
+program-end rows flags n choice h =
+    let l : length (rulesIn rows) ≤ n = omega (arith, rows-many rows) in
+    rw (drop-of-length-le (rulesIn rows) l)

@@ -2,21 +2,12 @@
 -- by these: they stand between the code and the definition of split programs.
 use mathlib.Core.Bool.{Bool}
 use mathlib.Core.List.{List, [], _∷_, _++_, map}
-use Prim.Native.Nat.{ℕ, _+_, _-_, _≤_, _<_}
-use lib.ListN.{length, getD, take}
+use Prim.Native.Nat.{ℕ, _+_}
+use lib.ListN.{length, getD, take, drop}
 use Rattle.atoms.specs.Atoms.{has}
 use Rattle.lpod.specs.Lists.{keep, below}
 use Rattle.lpod.specs.Rule.{Rule, mostAtoms}
 use Rattle.lpod.specs.Split.{Option, gives, bars, choices, barHolds, splitAnswer}
-use Rattle.page.specs.Fields.{rowCount}
-use Rattle.page.specs.Program.{ruleAt, rowsFrom, literalPlace}
-
--- row n of a page; m rows from row n on
-unfoldable pub rowAt : List ℕ → ℕ → Rule
-rowAt page n = ruleAt page n (literalPlace page n)
-
-unfoldable pub someRows : List ℕ → ℕ → ℕ → List Rule
-someRows page n m = rowsFrom page n (literalPlace page n) m
 
 -- option k of a row, counted from 0, read off its head. A row without head is its own one option
 unfoldable pub optionIn : Rule → ℕ → List ℕ → Option
@@ -40,14 +31,9 @@ unfoldable pub flagOptions : ℕ → List Option
 flagOptions flags = map (λ a. gives a [] []) (keep (has flags) (below mostAtoms))
 
 -- the split program of a choice; its part from row n on
-unfoldable pub programFrom : List ℕ → ℕ → ℕ → List ℕ → List Option
-programFrom page flags n choice = taken (someRows page n (rowCount page - n)) n choice ++ flagOptions flags
+unfoldable pub programFrom : List Rule → ℕ → ℕ → List ℕ → List Option
+programFrom P flags n choice = taken (drop n P) n choice ++ flagOptions flags
 
 -- how many choices for the first n rows, with that of `choice` for the others, have s as answer set
-unfoldable pub countFrom : List ℕ → ℕ → ℕ → ℕ → List ℕ → ℕ
-countFrom page flags s n choice = length (keep (λ C. splitAnswer (C ++ programFrom page flags n choice) s) (choices (someRows page 0 n)))
-
--- what the test asks of a page: its rows have a place in the choice, and its head atoms are atoms of 16 bits. An accepted page is so
-pub record Splits (page : List ℕ) : Type 0 where
-  pub rows-most : rowCount page ≤ 32
-  pub heads-below : (n k : ℕ) → n < rowCount page → getD (rowAt page n .head) k 0 < mostAtoms
+unfoldable pub countFrom : List Rule → ℕ → ℕ → ℕ → List ℕ → ℕ
+countFrom P flags s n choice = length (keep (λ C. splitAnswer (C ++ programFrom P flags n choice) s) (choices (take n P)))

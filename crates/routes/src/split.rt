@@ -1,20 +1,18 @@
 // The split test: how many split programs of a page and its flags have a set as answer set. A split program takes one option of each row.
 ghost use mathlib.Core.Path.{_≡_};
-ghost use Prim.Native.Nat.{_<_, _≤_, _-_, max};
+ghost use Prim.Native.Nat.{_≤_, max};
 ghost use lib.Dec.{ltb};
-ghost use lib.ListN.{getD};
+ghost use lib.ListN.{length, take};
 ghost use Rattle.lpod.specs.Lists.{every};
 ghost use Rattle.lpod.specs.Least.{fire, least};
 ghost use Rattle.lpod.specs.Split.{splitNumber, splitCount, splitAnswer, glRow, glReduct};
-ghost use Rattle.page.specs.Fields.{rowCount, headCount};
-ghost use Rattle.page.specs.Program.{program, rowsOf};
-ghost use Rattle.page.specs.Rows.{ruleOf};
+ghost use Rattle.words.specs.Coded.{ruleIn, rulesIn, programIn};
 ghost use Rattle.routes.specs.Choice as choices;
 ghost use Rattle.routes.specs.Split as means;
 use page::accept;
-use page::fields;
-use page::rows;
-use page::rows::Row;
+use words::read;
+use words::row;
+use words::rows;
 
 // The answer: the refusal number, how many split programs have the set as answer set, and whether one has.
 pub struct Split {
@@ -23,11 +21,11 @@ pub struct Split {
     pub yes: bool,
 }
 
-// How many options row n has: one for each head atom. A row without head is its own one option.
-fn option_count(page: &[u8], n: u16) -> u8
-    ensures { λ r. ⌜ r ≡ max 1 (headCount (now (page .entry)) n) ⌝ }
+// How many options a row has: one for each head atom. A row without head is its own one option.
+fn option_count(row: u64) -> u8
+    ensures { λ r. ⌜ r ≡ max 1 (length (ruleIn row .head)) ⌝ }
 {
-    let head = fields::head_count(page, n);
+    let head = row::head_count(row);
     if 0 < head {
         return head;
     }
@@ -36,14 +34,13 @@ fn option_count(page: &[u8], n: u16) -> u8
 
 // There are more than 4,096 split programs. Their number is the product of the option counts; it needs up to 83 bits, so that
 // counting stops above 4,096. A flag's row has one option.
-fn too_many(page: &[u8]) -> bool
-    ensures { λ r. ⌜ r ≡ ltb 4096 (splitNumber (rowsOf (now (page .entry)))) ⌝ }
+fn too_many(rows: &[u64]) -> bool
+    ensures { λ r. ⌜ r ≡ ltb 4096 (splitNumber (rulesIn (now (rows .entry)))) ⌝ }
 {
-    let rows = fields::row_count(page);
     let mut number: u32 = 1;
     let mut n = 0;
-    while n < rows {
-        let options = option_count(page, n) as u32;
+    while n < rows.len() {
+        let options = option_count(rows[n]) as u32;
         number *= options;
         if 4096 < number {
             return true;
@@ -55,158 +52,130 @@ fn too_many(page: &[u8]) -> bool
 
 // What option k of a row, counted from 0, adds to t in a round from s. A row without head adds nothing, nor does an option of which a negative atom or
 // an earlier head atom is in the set. Else head atom k is added where the positive body is in s, whether or not that atom is in the set.
-fn option_fire(page: &[u8], row: Row, k: u8, set: u16, s: u16, t: u16) -> u16
-    requires { ⌜ getD (ruleOf (now page) row .head) k 0 < 16 ⌝ }
-    ensures { λ r. ⌜ r ≡ fire (glRow set (choices.optionAt (ruleOf (now (page .entry)) row) k)) s t ⌝ }
+fn option_fire(row: u64, k: u8, set: u16, s: u16, t: u16) -> u16
+    ensures { λ r. ⌜ r ≡ fire (glRow set (choices.optionAt (ruleIn row) k)) s t ⌝ }
 {
-    let head = row.head;
-    if head == 0 {
+    if row::head_count(row) == 0 {
         return t;
     }
-    if rows::neg_in(page, row, set) {
+    if row::neg_in(row, set) {
         return t;
     }
-    let first = rows::head_place(page, row, set);
+    let first = row::head_place(row, set);
     if (0 < first) & (first <= k) {
         return t;
     }
-    if rows::pos_in(page, row, s) {
-        return atoms::with_atom(t, rows::head_atom(page, row, k));
+    if row::pos_in(row, s) {
+        return atoms::with_atom(t, row::head_atom(row, k));
     }
     t
 }
 
 // One round from s of the chosen split program: all its rules whose body holds in s fire together. A flag's rule has no body.
-fn round(page: &[u8], flags: u16, set: u16, choice: &[u8; 32], s: u16) -> u16
-    requires { ⌜ choices.Splits (now page) ⌝ }
-    ensures { λ r. ⌜ r ≡ fire (glReduct (choices.programFrom (now (page .entry)) flags 0 (now (choice .entry))) set) s s ⌝ }
+fn round(rows: &[u64], flags: u16, set: u16, choice: &[u8; 32], s: u16) -> u16
+    requires { ⌜ length (now rows) ≤ 32 ⌝ }
+    ensures { λ r. ⌜ r ≡ fire (glReduct (choices.programFrom (rulesIn (now (rows .entry))) flags 0 (now (choice .entry))) set) s s ⌝ }
 {
-    let rows = fields::row_count(page);
     let mut t = s;
-    let mut place = rows::first_place(page);
     let mut n = 0;
-    while n < rows {
-        let row = rows::row_from(page, n, place);
-        let k = choice[n as usize];
-        t = option_fire(page, row, k, set, s, t);
-        place = rows::place_after(row);
+    while n < rows.len() {
+        t = option_fire(rows[n], choice[n], set, s, t);
         n += 1;
     }
     atoms::union(t, flags)
 }
 
 // The least set closed under the chosen split program: rounds from the empty set until one adds nothing, at most 17.
-fn least_closed(page: &[u8], flags: u16, set: u16, choice: &[u8; 32]) -> u16
-    requires { ⌜ choices.Splits (now page) ⌝ }
-    ensures { λ r. ⌜ r ≡ least (glReduct (choices.programFrom (now (page .entry)) flags 0 (now (choice .entry))) set) ⌝ }
+fn least_closed(rows: &[u64], flags: u16, set: u16, choice: &[u8; 32]) -> u16
+    requires { ⌜ length (now rows) ≤ 32 ⌝ }
+    ensures { λ r. ⌜ r ≡ least (glReduct (choices.programFrom (rulesIn (now (rows .entry))) flags 0 (now (choice .entry))) set) ⌝ }
 {
     let mut s: u16 = 0;
-    let mut t = round(page, flags, set, choice, s);
+    let mut t = round(rows, flags, set, choice, s);
     while s != t {
         s = t;
-        t = round(page, flags, set, choice, s);
+        t = round(rows, flags, set, choice, s);
     }
     s
 }
 
 // A row without head is satisfied: its body does not hold in the set. Of a row with head nothing is asked here.
-fn bar_holds(page: &[u8], row: Row, set: u16) -> bool
-    ensures { λ r. ⌜ r ≡ choices.barRow set (ruleOf (now (page .entry)) row) ⌝ }
+fn bar_holds(row: u64, set: u16) -> bool
+    ensures { λ r. ⌜ r ≡ choices.barRow set (ruleIn row) ⌝ }
 {
-    let head = row.head;
-    if head != 0 {
+    if row::head_count(row) != 0 {
         return true;
     }
-    !rows::body_holds(page, row, set)
+    !row::body_holds(row, set)
 }
 
 // All rows without head are satisfied.
-fn bars_hold(page: &[u8], set: u16) -> bool
-    ensures { λ r. ⌜ r ≡ every (choices.barRow set) (rowsOf (now (page .entry))) ⌝ }
+fn bars_hold(rows: &[u64], set: u16) -> bool
+    ensures { λ r. ⌜ r ≡ every (choices.barRow set) (rulesIn (now (rows .entry))) ⌝ }
 {
-    let rows = fields::row_count(page);
-    let mut place = rows::first_place(page);
     let mut n = 0;
-    while n < rows {
-        let row = rows::row_from(page, n, place);
-        if !bar_holds(page, row, set) {
+    while n < rows.len() {
+        if !bar_holds(rows[n], set) {
             return false;
         }
-        place = rows::place_after(row);
         n += 1;
     }
     true
 }
 
 // The set is an answer set of the chosen split program.
-fn chosen_answer(page: &[u8], flags: u16, set: u16, choice: &[u8; 32]) -> bool
-    requires { ⌜ choices.Splits (now page) ⌝ }
-    ensures { λ r. ⌜ r ≡ splitAnswer (choices.programFrom (now (page .entry)) flags 0 (now (choice .entry))) set ⌝ }
+fn chosen_answer(rows: &[u64], flags: u16, set: u16, choice: &[u8; 32]) -> bool
+    requires { ⌜ length (now rows) ≤ 32 ⌝ }
+    ensures { λ r. ⌜ r ≡ splitAnswer (choices.programFrom (rulesIn (now (rows .entry))) flags 0 (now (choice .entry))) set ⌝ }
 {
-    if bars_hold(page, set) {
-        return least_closed(page, flags, set, choice) == set;
+    if bars_hold(rows, set) {
+        return least_closed(rows, flags, set, choice) == set;
     }
     false
 }
 
 // How many choices of options for the first n rows, with that of `choice` for the others, have the set as answer set. It goes through the options
 // of row n - 1, and for each through those of the rows before it. At most 4,096 choices are tested.
-fn count_from(page: &[u8], flags: u16, set: u16, n: u16, choice: [u8; 32]) -> u16
-    requires { ⌜ choices.Splits (now page) × (n ≤ rowCount (now page)) × (splitNumber (choices.someRows (now page) 0 n) ≤ 4096) ⌝ }
-    ensures { λ r. ⌜ r ≡ choices.countFrom (now (page .entry)) flags set n choice ⌝ }
+fn count_from(rows: &[u64], flags: u16, set: u16, n: usize, choice: [u8; 32]) -> u16
+    requires { ⌜ (length (now rows) ≤ 32) × (n ≤ length (now rows)) × (splitNumber (take n (rulesIn (now rows))) ≤ 4096) ⌝ }
+    ensures { λ r. ⌜ r ≡ choices.countFrom (rulesIn (now (rows .entry))) flags set n choice ⌝ }
 {
     if n == 0 {
-        if chosen_answer(page, flags, set, &choice) {
+        if chosen_answer(rows, flags, set, &choice) {
             return 1;
         }
         return 0;
     }
-    let row = n - 1;
-    let at = row as usize;
-    let options = option_count(page, row);
+    let at = n - 1;
+    let options = option_count(rows[at]);
     let mut total: u16 = 0;
     let mut k: u8 = 0;
     while k < options {
         let mut next = choice;
         next[at] = k;
-        total += count_from(page, flags, set, row, next);
+        total += count_from(rows, flags, set, at, next);
         k += 1;
     }
     total
 }
 
 // How many split programs have the set as answer set. Pairs are checked on the set.
-fn split_count(page: &[u8], flags: u16, set: u16) -> u16
-    requires { ⌜ choices.Splits (now page) × (splitNumber (rowsOf (now page)) ≤ 4096) ⌝ }
-    ensures { λ r. ⌜ r ≡ splitCount (program (now (page .entry)) flags) set ⌝ }
+fn split_count(rows: &[u64], pairs: &[u16], flags: u16, set: u16) -> u16
+    requires { ⌜ (length (now rows) ≤ 32) × (splitNumber (rulesIn (now rows)) ≤ 4096) ⌝ }
+    ensures { λ r. ⌜ r ≡ splitCount (programIn (now (rows .entry)) (now (pairs .entry)) flags) set ⌝ }
 {
-    if rows::no_pair(page, set) {
-        let rows = fields::row_count(page);
-        return count_from(page, flags, set, rows, [0; 32]);
-    }
-    0
-}
-
-// The test's refusal number.
-fn split_no(page: &[u8], flags: u16, set: u16) -> u16
-    ensures { λ r. ⌜ r ≡ means.splitNo (now (page .entry)) flags set ⌝ }
-{
-    let found = accept::test_no(page, flags, set);
-    if found != 0 {
-        return found;
-    }
-    if too_many(page) {
-        return 12;
+    if rows::no_pair(pairs, set) {
+        return count_from(rows, flags, set, rows.len(), [0; 32]);
     }
     0
 }
 
 // The split test of a set: the refusal number; accepted, how many split programs have the set as answer set, and yes where one has; refused, 0 and
-// no. At most 4,096 split programs are tested.
+// no. At most 4,096 split programs are tested. The page is put into words once.
 pub fn split_test(page: &[u8], flags: u16, set: u16) -> Split
     ensures { λ r. ⌜ means.SplitSays (now (page .entry)) flags set r ⌝ }
 {
-    let no = split_no(page, flags, set);
+    let no = accept::test_no(page, flags, set);
     if no != 0 {
         return Split {
             no,
@@ -214,7 +183,18 @@ pub fn split_test(page: &[u8], flags: u16, set: u16) -> Split
             yes: false,
         };
     }
-    let count = split_count(page, flags, set);
+    let n = read::row_total(page);
+    let rows = read::row_words(page);
+    if too_many(&rows[..n]) {
+        return Split {
+            no: 12,
+            count: 0,
+            yes: false,
+        };
+    }
+    let q = read::pair_total(page);
+    let pairs = read::pair_words(page);
+    let count = split_count(&rows[..n], &pairs[..q], flags, set);
     Split {
         no: 0,
         count,

@@ -1,93 +1,68 @@
--- `degrees::store` goes through the rows. What is kept: the row in hand stands at `place`, and storing all degrees from the start of the slice as
--- it was comes to storing those from the row in hand on into the slice as it is. Assumes nothing.
-use mathlib.Core.Path.{_≡_, refl, sym, ap, _∙_}
-use mathlib.Core.List.{List, map}
-use Prim.Native.Nat.{_-_, _≤_, _<_}
+-- `degrees::store` goes through the rows. What is kept: storing all degrees from the start of the slice as it was comes to storing those of the rows
+-- that are left into the slice as it is. Assumes nothing.
+use mathlib.Core.Path.{_≡_, refl, sym, _∙_}
+use mathlib.Core.List.{map}
+use Prim.Native.Nat.{_-_, _≤_}
 use native.Mathlib.Omega.{arith}
 use denote.Ref.{now}
-use lib.ListN.{length, length-set}
+use lib.ListN.{length, drop, length-set}
 use lib.Seq.{sets}
-use Rattle.lpod.specs.Rule.{Rule}
 use Rattle.lpod.specs.Degree.{degree}
-use Rattle.page.specs.Program.{rowsFrom, rowsOf, literalPlace}
-use Rattle.page.proofs.RowSteps.{at-first, at-next, rest-first, rest-step, rest-none}
+use Rattle.words.specs.Coded.{ruleIn, rulesIn}
+use Rattle.words.proofs.Rest.{rest-step, rest-none}
 use Rattle.engine.proofs.Stored.{over-sets, sets-go, sets-end, degrees-length}
 use Rattle.engine.proofs.degrees.store.Statement.{statement}
 use Rattle.engine.proofs.degrees.store.Tie as tie
 
 abbrev Inv-loop : tie.InvT-loop
-Inv-loop page set out₀ rows place₀ n₀ out place n =
-    (n ≤ rows) × (place ≡ literalPlace page n) × (length out ≡ length out₀)
-    × (sets out₀ 0 (map (degree set) (rowsOf page)) ≡ sets out n (map (degree set) (rowsFrom page n place (rows - n))))
+Inv-loop rows set out₀ n₀ out n =
+    (n ≤ length rows) × (length out ≡ length out₀) × (sets out₀ 0 (map (degree set) (rulesIn rows)) ≡ sets out n (map (degree set) (map ruleIn (drop n rows))))
 
 abbrev μ-loop : tie.MeasureT-loop
-μ-loop page set out₀ rows place₀ n₀ out place n = rows - n
-
-row-count-requires : tie.Need-row-count-requires Inv-loop μ-loop
-row-count-requires c κs = tt
-
-first-place-requires : tie.Need-first-place-requires Inv-loop μ-loop
-first-place-requires c κs = tt
+μ-loop rows set out₀ n₀ out n = length rows - n
 
 loop-holds : tie.Need-loop-holds Inv-loop μ-loop
-loop-holds c =
-    let a = c .before .before .before .before .args in (
-      omega arith,
-      at-first (now (a .page)) _ (c .first-place .ensures),
-      refl,
-      ap (λ (P : List Rule). sets (now (a .out)) 0 (map (degree (a .set)) P)) (rest-first (now (a .page)) _ _ (c .first-place .ensures) (c .before .row-count .ensures)),
-    )
+unfolding rulesIn
+loop-holds c = (omega arith, refl, refl)
 
-row-from-requires : tie.Need-row-from-requires Inv-loop μ-loop
-row-from-requires c κs = tt
+mul-degree : tie.Need-mul-degree Inv-loop μ-loop
+mul-degree c = omega (arith, c .before .before .before .before .good .0)
 
-cast-at : tie.Need-cast-at Inv-loop μ-loop
-cast-at c = omega arith
+shared-slice-read-degree : tie.Need-shared-slice-read-degree Inv-loop μ-loop
+shared-slice-read-degree c = omega arith
 
 degree-requires : tie.Need-degree-requires Inv-loop μ-loop
 degree-requires c κs = tt
 
 slice-write-out : tie.Need-slice-write-out Inv-loop μ-loop
-slice-write-out c = omega arith
-
-place-after-requires : tie.Need-place-after-requires Inv-loop μ-loop
-place-after-requires c κs = tt
+slice-write-out c = omega (arith, c .before .before .before .before .before .before .pre, c .before .before .before .loop .inv .1)
 
 add-n : tie.Need-add-n Inv-loop μ-loop
-add-n c = omega arith
+add-n c = omega (arith, c .before .before .before .before .before .before .good .0)
 
 loop-less : tie.Need-loop-less Inv-loop μ-loop
 loop-less c = omega arith
 
 loop-again : tie.Need-loop-again Inv-loop μ-loop
 loop-again c =
-    let row = c .before .before .row-from in
-    let h = c .before .before .before .before .loop in
-    let count = c .before .before .before .before .before .before in
-    let page = count .before .before in
-    let a = page .before .args in
-    let small : h .n < 65536 = omega (arith, count .row-count .ok) in (
+    let h = c .before .before .before .loop in
+    let a = c .before .before .before .before .before .before .args in (
       omega arith,
-      at-next _ (page .shared-slice-known .given) (h .n) _ (row .result) small (h .inv .1) (row .ensures) _ (c .place-after .ensures),
-      length-set (h .out) (h .n) _ ∙ h .inv .2,
-      h .inv .3 ∙ sets-go (a .set) (h .out) (h .n) (rest-step _ (page .shared-slice-known .given) (h .n) _ (row .result) small (h .inv .1) (row .ensures)
-          _ _ (omega arith) (c .place-after .ensures)) _ (c .before .degree .ensures) _ refl,
+      length-set (h .out) (h .n) _ ∙ h .inv .1,
+      h .inv .2 ∙ sets-go (a .set) (h .out) (h .n) (rest-step ruleIn (now (a .rows)) (h .n) (omega arith) _ refl) _ (c .degree .ensures) _ refl,
     )
 
 same-length : tie.Need-same-length Inv-loop μ-loop
-same-length c = c .before .loop .inv .2
+same-length c = c .before .loop .inv .1
 
 returns : tie.Need-returns Inv-loop μ-loop
 returns c =
     let h = c .before .loop in
-    let count = c .before .before .before in
-    let start = count .before .before .before in
+    let start = c .before .before .before .before in
     let a = start .args in
-    let room : length (map (degree (a .set)) (rowsOf (now (a .page)))) ≤ length (now (a .out)) = rw (degrees-length (now (a .page)) (a .set)) (start .pre) in (
-      count .row-count .ensures,
-      sym (sym (over-sets (map (degree (a .set)) (rowsOf (now (a .page)))) (now (a .out)) room) ∙ h .inv .3
-          ∙ sets-end (a .set) (h .out) (h .n) _ (rest-none (now (a .page)) (h .n) (h .place) _ (omega arith))),
-    )
+    let room : length (map (degree (a .set)) (rulesIn (now (a .rows)))) ≤ length (now (a .out)) = rw (degrees-length (a .set) (now (a .rows))) (start .pre) in
+    sym (sym (over-sets (map (degree (a .set)) (rulesIn (now (a .rows)))) (now (a .out)) room) ∙ h .inv .2
+    ∙ sets-end (a .set) (h .out) (h .n) _ (rest-none ruleIn (now (a .rows)) (h .n) (omega arith)))
 
 pub store-spec : {M : Type 1} → statement M
 store-spec =
@@ -95,14 +70,11 @@ store-spec =
     (tie.spec
     Inv-loop
     μ-loop
-    row-count-requires
-    first-place-requires
     loop-holds
-    row-from-requires
-    cast-at
+    mul-degree
+    shared-slice-read-degree
     degree-requires
     slice-write-out
-    place-after-requires
     add-n
     loop-less
     loop-again

@@ -3,18 +3,19 @@ use mathlib.Core.Path.{_≡_, refl, _∙_}
 use Prim.Native.Nat.{ℕ, _+_, _-_, _≤_, _<_}
 use native.Mathlib.Omega.{arith}
 use lib.ListN.{length, getD, length-set}
-use Rattle.page.specs.Program.{program}
+use Rattle.lpod.specs.Answer.{answer}
+use Rattle.words.specs.Coded.{programIn}
 use Rattle.engine.specs.Marks.{tried, blockOf, marksOf, wordsTo}
 use Rattle.engine.proofs.Blocks.{block-more, all-blocks}
 use Rattle.engine.proofs.marks.answers.Statement.{statement}
 use Rattle.engine.proofs.marks.answers.Tie as tie
 
 abbrev Inv-loop : tie.InvT-loop
-Inv-loop page flags top last marks₀ b₀ marks b =
-    (b ≤ last + 1) × (length marks ≡ 4096) × ((i : ℕ) → i < b → getD marks i 0 ≡ blockOf (tried (program page flags) top) i)
+Inv-loop rows pairs flags top last marks₀ b₀ marks b =
+    (b ≤ last + 1) × (length marks ≡ 4096) × ((i : ℕ) → i < b → getD marks i 0 ≡ blockOf (tried (answer (programIn rows pairs flags)) flags top) i)
 
 abbrev μ-loop : tie.MeasureT-loop
-μ-loop page flags top last marks₀ b₀ marks b = last + 1 - b
+μ-loop rows pairs flags top last marks₀ b₀ marks b = last + 1 - b
 
 loop-holds : tie.Need-loop-holds Inv-loop μ-loop
 loop-holds c = (omega arith, refl, λ i l. absurd (omega (arith, l)))

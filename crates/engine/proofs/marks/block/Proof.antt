@@ -1,23 +1,38 @@
--- `marks::block` tests 16 sets, one after the other. What is kept: the bits so far, with those to come, are the block. Assumes nothing.
+-- `marks::block` answers 0 where no set of the block can pass; else it tests 16 sets, one after the other. What is kept: the bits so far, with those to come, are the block. Assumes nothing.
 use mathlib.Core.Path.{_≡_, sym, _∙_}
 use mathlib.Core.Logic.{⊎-elim}
 use mathlib.Core.Bool.{Bool}
 use Prim.Native.Nat.{ℕ, _+_, _*_, _-_, _≤_}
 use native.Mathlib.Omega.{arith}
 use denote.Ref.{now}
+use borrow.Author.Tests.{not-true}
 use Rattle.atoms.specs.Atoms.{union}
-use Rattle.page.specs.Program.{program}
+use Rattle.lpod.specs.Answer.{answer}
+use Rattle.words.specs.Coded.{programIn}
 use Rattle.engine.specs.Marks.{tried, blockOf}
 use Rattle.engine.proofs.Blocks.{bitsFrom, bits-first, bit-on, bit-off, bits-done}
+use Rattle.engine.proofs.EmptyBlocks.{block-low, block-high}
 use Rattle.engine.proofs.marks.block.Statement.{statement}
 use Rattle.engine.proofs.marks.block.Tie as tie
 
 abbrev Inv-loop : tie.InvT-loop
-Inv-loop page flags top b w₀ j₀ w j =
-    (j ≤ 16) × (blockOf (tried (program page flags) top) b ≡ union w (bitsFrom (λ i. tried (program page flags) top (16 * b + i)) j))
+Inv-loop rows pairs flags top b w₀ j₀ w j =
+    (j ≤ 16) × (blockOf (tried (answer (programIn rows pairs flags)) flags top) b ≡ union w (bitsFrom (λ i. tried (answer (programIn rows pairs flags)) flags top (16 * b + i)) j))
 
 abbrev μ-loop : tie.MeasureT-loop
-μ-loop page flags top b w₀ j₀ w j = 16 - j
+μ-loop rows pairs flags top b w₀ j₀ w j = 16 - j
+
+part-of-requires : tie.Need-part-of-requires Inv-loop μ-loop
+part-of-requires c κs = tt
+
+returns : tie.Need-returns Inv-loop μ-loop
+returns c = block-low _ _ _ _ (c .before .part-of .result) (not-true _ (c .if1 .taken)) (c .before .part-of .ensures)
+
+part-of-requires-2 : tie.Need-part-of-requires-2 Inv-loop μ-loop
+part-of-requires-2 c κs = tt
+
+returns-2 : tie.Need-returns-2 Inv-loop μ-loop
+returns-2 c = block-high _ _ _ _ (c .before .part-of2 .result) (not-true _ (c .if2 .taken)) (c .before .part-of2 .ensures)
 
 loop-holds : tie.Need-loop-holds Inv-loop μ-loop
 unfolding blockOf
@@ -48,16 +63,16 @@ loop-again : tie.Need-loop-again Inv-loop μ-loop
 loop-again c =
     let r = c .before .is-tried in
     let h = c .before .before .before .loop in
-    let a = c .before .before .before .before .before .args in
-    let q : ℕ → Bool = λ i. tried (program (now (a .page)) (a .flags)) (a .top) (16 * a .b + i) in (
+    let a = c .before .before .before .before .before .before .before .before .before .before .args in
+    let q : ℕ → Bool = λ i. tried (answer (programIn (now (a .rows)) (now (a .pairs)) (a .flags))) (a .flags) (a .top) (16 * a .b + i) in (
       omega arith,
       h .inv .1
-          ∙ ⊎-elim (λ w. bit-on q (h .w) (h .j) (omega arith) (r .result) (r .ensures) (w .0 .taken) (c .if1 .w) (w .2 ∙ w .1 .ensures))
-          (λ w. bit-off q (h .w) (h .j) (omega arith) (r .result) (r .ensures) (w .0 .left) (c .if1 .w) (w .1)) (c .if1 .came),
+          ∙ ⊎-elim (λ w. bit-on q (h .w) (h .j) (omega arith) (r .result) (r .ensures) (w .0 .taken) (c .if3 .w) (w .2 ∙ w .1 .ensures))
+          (λ w. bit-off q (h .w) (h .j) (omega arith) (r .result) (r .ensures) (w .0 .left) (c .if3 .w) (w .1)) (c .if3 .came),
     )
 
-returns : tie.Need-returns Inv-loop μ-loop
-returns c =
+returns-3 : tie.Need-returns-3 Inv-loop μ-loop
+returns-3 c =
     let h = c .before .loop in
     sym (h .inv .1 ∙ bits-done _ (h .w) (h .j) (c .loop-test .left))
 
@@ -67,6 +82,10 @@ block-spec =
     (tie.spec
     Inv-loop
     μ-loop
+    part-of-requires
+    returns
+    part-of-requires-2
+    returns-2
     loop-holds
     mul-is-tried
     cast-is-tried
@@ -76,4 +95,4 @@ block-spec =
     add-j
     loop-less
     loop-again
-    returns)
+    returns-3)

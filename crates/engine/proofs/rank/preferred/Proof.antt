@@ -1,8 +1,9 @@
--- `rank::preferred` takes the rows of the raised atoms first and then those of the page; what is found at the end decides. Assumes nothing.
+-- `rank::preferred` takes the rows of the raised atoms first and then those of the words; what is found at the end decides. Assumes nothing.
 use mathlib.Core.Path.{_∙_, ap}
 use denote.Ref.{now}
 use borrow.Author.Needs.{needs}
-use Rattle.page.specs.Program.{program, rowsOf}
+use mathlib.Core.List.{[]}
+use Rattle.words.specs.Coded.{programIn, rulesIn}
 use Rattle.engine.specs.Rank.{rowsSeen}
 use Rattle.engine.specs.declared.rank.Difference.{Difference}
 use Rattle.engine.proofs.FirstDifference.{pass-decides}
@@ -16,13 +17,13 @@ rows-seen-requires : tie.Need-rows-seen-requires
 rows-seen-requires c κs = search needs
 
 returns : tie.Need-returns
-unfolding program
+unfolding programIn
 returns c =
     let pass = c .before .before in
     let start = pass .before .before .before in
     let a = start .args in
-    pass-decides (program (now (a .page)) (a .flags)) (a .m) (a .n) (start .fits .flags .fits) _
-    (pass .rows-seen .ensures ∙ ap (λ (f : Difference). rowsSeen f (rowsOf (now (a .page))) (a .m) (a .n)) (pass .before .raised .ensures))
+    pass-decides (programIn (now (a .rows)) [] (a .flags)) (a .m) (a .n) (start .fits .flags .fits) _
+    (pass .rows-seen .ensures ∙ ap (λ (f : Difference). rowsSeen f (rulesIn (now (a .rows))) (a .m) (a .n)) (pass .before .raised .ensures))
 
 pub preferred-spec : {M : Type 1} → statement M
 preferred-spec = tie.close (tie.spec raised-requires rows-seen-requires returns)

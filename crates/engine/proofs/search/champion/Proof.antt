@@ -4,6 +4,7 @@ use mathlib.Core.Path.{_≡_}
 use Prim.Native.Nat.{_+_, _-_, _<_}
 use native.Mathlib.Omega.{arith}
 use lib.Dec.{T}
+use Rattle.engine.specs.Rank.{prefers}
 use Rattle.engine.specs.Seek.{nextFrom}
 use Rattle.engine.specs.Marks.{marked}
 use Rattle.engine.specs.Search.{sought}
@@ -13,10 +14,10 @@ use Rattle.engine.proofs.search.champion.Statement.{statement}
 use Rattle.engine.proofs.search.champion.Tie as tie
 
 abbrev Inv-loop : tie.InvT-loop
-Inv-loop page flags marks n c₀ k₀ c k = (c < 65536) × T (marked marks c) × (k ≡ nextFrom (sought page flags marks (Above c)) (c + 1))
+Inv-loop rows flags marks n c₀ k₀ c k = (c < 65536) × T (marked marks c) × (k ≡ nextFrom (sought (prefers rows flags) marks (Above c)) (c + 1))
 
 abbrev μ-loop : tie.MeasureT-loop
-μ-loop page flags marks n c₀ k₀ c k = 65536 - c
+μ-loop rows flags marks n c₀ k₀ c k = 65536 - c
 
 cast-next : tie.Need-cast-next Inv-loop μ-loop
 cast-next c = omega arith

@@ -6,9 +6,6 @@ use borrow.Author.Needs.{needs}
 use Rattle.engine.proofs.search.is_ranked.Statement.{statement}
 use Rattle.engine.proofs.search.is_ranked.Tie as tie
 
-enum-told : tie.Need-enum-told
-enum-told c = search needs
-
 enum-known-wanted : tie.Need-enum-known-wanted
 enum-known-wanted c = search needs
 
@@ -23,25 +20,19 @@ preferred-requires-2 c κs = search needs
 
 returns : tie.Need-returns
 unfolding ranked
-returns c = search needs
+returns c = rw (c .before .before .wanted .given .1) (c .preferred .ensures)
 
 returns-2 : tie.Need-returns-2
 unfolding ranked
-returns-2 c = rw (c .before .before .wanted .given .1) (c .preferred .ensures)
-
-returns-3 : tie.Need-returns-3
-unfolding ranked
-returns-3 c = rw (c .before .before .wanted2 .given .1) (ap not (c .preferred2 .ensures))
+returns-2 c = rw (c .before .before .wanted2 .given .1) (ap not (c .preferred2 .ensures))
 
 pub is-ranked-spec : {M : Type 1} → statement M
 is-ranked-spec =
     tie.close
     (tie.spec
-    enum-told
     enum-known-wanted
     preferred-requires
     enum-known-wanted-2
     preferred-requires-2
     returns
-    returns-2
-    returns-3)
+    returns-2)

@@ -13,10 +13,10 @@ mul-result : tie.Need-mul-result
 mul-result c = search needs
 
 returns : tie.Need-returns
-returns c = (omega arith, λ s l k. marks-past (now (c .before .args .marks)) s (omega (arith, l)))
+returns c = (omega arith, omega arith, λ s l k. marks-past (now (c .before .args .marks)) s (omega (arith, l)))
 
 returns-2 : tie.Need-returns-2
-returns-2 c = (omega arith, λ s l k. absurd (omega (arith, l, k)))
+returns-2 c = (omega arith, omega arith, λ s l k. absurd (omega (arith, l, k)))
 
 pub sets-in-spec : {M : Type 1} → statement M
 sets-in-spec = tie.close (tie.spec cast-result mul-result returns returns-2)

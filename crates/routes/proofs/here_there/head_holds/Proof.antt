@@ -1,8 +1,6 @@
 -- `here_there::head_holds` looks the head's first atom in `there` up in `here`. Assumes nothing.
-use mathlib.Core.Path.{_∙_, ap}
-use denote.Ref.{now}
-use Rattle.atoms.specs.Atoms.{has}
-use Rattle.page.specs.Rows.{ruleOf}
+use mathlib.Core.Path.{_∙_}
+use Rattle.words.specs.Coded.{ruleIn}
 use Rattle.routes.proofs.HeadsHold.{head-none, head-first}
 use borrow.Author.Needs.{needs}
 use Rattle.routes.proofs.here_there.head_holds.Statement.{statement}
@@ -13,8 +11,8 @@ head-place-requires c κs = search needs
 
 returns : tie.Need-returns
 returns c =
-    let a = c .before .before .before .args in
-    head-none (ruleOf (now (a .page)) (a .row) .head) (a .here) (a .there) _ (c .before .head-place .ensures) (c .if1 .taken)
+    let a = c .before .before .args in
+    head-none (ruleIn (a .row) .head) (a .here) (a .there) _ (c .before .head-place .ensures) (c .if1 .taken)
 
 sub-head-atom : tie.Need-sub-head-atom
 sub-head-atom c = search needs
@@ -28,9 +26,9 @@ holds-requires c κs = search needs
 returns-2 : tie.Need-returns-2
 returns-2 c =
     let k = c .before .before .before in
-    let a = k .before .before .args in
+    let a = k .before .args in
     c .holds .ensures
-    ∙ head-first (ruleOf (now (a .page)) (a .row) .head) (a .here) (a .there) _ (k .head-place .ensures) (c .before .before .if1 .left) _ (c .before .head-atom .ensures)
+    ∙ head-first (ruleIn (a .row) .head) (a .here) (a .there) _ (k .head-place .ensures) (c .before .before .if1 .left) _ (c .before .head-atom .ensures)
 
 pub head-holds-spec : {M : Type 1} → statement M
 head-holds-spec =

@@ -1,6 +1,6 @@
 -- `here_there::none_smaller` counts up through the numbers below `there`. What is kept: the answer for all is the answer for those from
 -- `here` on. Assumes nothing.
-use mathlib.Core.Path.{_≡_, refl, sym, ap, _∙_}
+use mathlib.Core.Path.{_≡_, sym, ap, _∙_}
 use mathlib.Core.Bool.{Bool, _&&_, not}
 use mathlib.Core.List.{List}
 use Prim.Native.Nat.{ℕ, _-_, _≤_}
@@ -9,30 +9,29 @@ use native.Mathlib.Omega.{arith}
 use denote.Ref.{now}
 use Rattle.atoms.specs.Atoms.{inside}
 use Rattle.lpod.specs.Lists.{every, numbers}
-use Rattle.lpod.specs.Rule.{rules}
 use Rattle.lpod.specs.HereThere.{model, noSmaller}
 use Rattle.lpod.proofs.Lists.{numbers-next, numbers-done}
-use Rattle.page.specs.Program.{program}
+use Rattle.words.specs.Coded.{rulesWith}
 use Rattle.page.proofs.Scan.{every-go, every-stop, every-none}
 use Rattle.routes.proofs.here_there.none_smaller.Statement.{statement}
 use Rattle.routes.proofs.here_there.none_smaller.Tie as tie
 
 -- H is no model with T that lies inside it
 abbrev fails : List ℕ → ℕ → ℕ → ℕ → Bool
-fails page flags T H = not (inside H T && model (rules (program page flags)) H T)
+fails rows flags T H = not (inside H T && model (rulesWith rows flags) H T)
 
 abbrev Inv-loop : tie.InvT-loop
-Inv-loop page flags there here₀ here =
-    (here ≤ there) × (noSmaller (rules (program page flags)) there ≡ every (fails page flags there) (numbers here (there - here)))
+Inv-loop rows flags there here₀ here =
+    (here ≤ there) × (noSmaller (rulesWith rows flags) there ≡ every (fails rows flags there) (numbers here (there - here)))
 
 abbrev μ-loop : tie.MeasureT-loop
-μ-loop page flags there here₀ here = there - here
+μ-loop rows flags there here₀ here = there - here
 
 loop-holds : tie.Need-loop-holds Inv-loop μ-loop
 unfolding noSmaller
 loop-holds c =
     let a = c .before .args in
-    (omega arith, sym (ap (λ (n : ℕ). every (fails (now (a .page)) (a .flags) (a .there)) (numbers 0 n)) (sub-zero (a .there))))
+    (omega arith, sym (ap (λ (n : ℕ). every (fails (now (a .rows)) (a .flags) (a .there)) (numbers 0 n)) (sub-zero (a .there))))
 
 part-models-requires : tie.Need-part-models-requires Inv-loop μ-loop
 part-models-requires c κs = tt

@@ -1,7 +1,6 @@
 -- `here_there::row_holds` tests a row in (here, there) by its parts. Assumes nothing.
-use denote.Ref.{now}
 use borrow.Author.Tests.{not-true, not-false}
-use Rattle.page.specs.Rows.{ruleOf}
+use Rattle.words.specs.Coded.{ruleIn}
 use Rattle.routes.proofs.HeadsHold.{row-unsatisfied, row-missed, row-blocked, row-head}
 use borrow.Author.Needs.{needs}
 use Rattle.routes.proofs.here_there.row_holds.Statement.{statement}
@@ -12,8 +11,8 @@ satisfied-requires c κs = search needs
 
 returns : tie.Need-returns
 returns c =
-    let a = c .before .before .before .args in
-    row-unsatisfied (ruleOf (now (a .page)) (a .row)) (a .here) (a .there) _ (c .before .satisfied .ensures) (not-true _ (c .if1 .taken))
+    let a = c .before .before .args in
+    row-unsatisfied (ruleIn (a .row)) (a .here) (a .there) _ (c .before .satisfied .ensures) (not-true _ (c .if1 .taken))
 
 pos-in-requires : tie.Need-pos-in-requires
 pos-in-requires c κs = search needs
@@ -21,8 +20,8 @@ pos-in-requires c κs = search needs
 returns-2 : tie.Need-returns-2
 returns-2 c =
     let s = c .before .before in
-    let a = s .before .before .before .args in
-    row-missed (ruleOf (now (a .page)) (a .row)) (a .here) (a .there) _ (s .before .satisfied .ensures) (not-false _ (s .if1 .left)) _ (c .before .pos-in .ensures) (not-true _ (c .if2 .taken))
+    let a = s .before .before .args in
+    row-missed (ruleIn (a .row)) (a .here) (a .there) _ (s .before .satisfied .ensures) (not-false _ (s .if1 .left)) _ (c .before .pos-in .ensures) (not-true _ (c .if2 .taken))
 
 neg-in-requires : tie.Need-neg-in-requires
 neg-in-requires c κs = search needs
@@ -31,8 +30,8 @@ returns-3 : tie.Need-returns-3
 returns-3 c =
     let p = c .before .before in
     let s = p .before .before in
-    let a = s .before .before .before .args in
-    row-blocked (ruleOf (now (a .page)) (a .row)) (a .here) (a .there) _ (s .before .satisfied .ensures) (not-false _ (s .if1 .left)) _ (p .before .pos-in .ensures)
+    let a = s .before .before .args in
+    row-blocked (ruleIn (a .row)) (a .here) (a .there) _ (s .before .satisfied .ensures) (not-false _ (s .if1 .left)) _ (p .before .pos-in .ensures)
     (not-false _ (p .if2 .left)) _ (c .before .neg-in .ensures) (c .if3 .taken)
 
 head-holds-requires : tie.Need-head-holds-requires
@@ -43,8 +42,8 @@ returns-4 c =
     let n = c .before in
     let p = n .before .before in
     let s = p .before .before in
-    let a = s .before .before .before .args in
-    row-head (ruleOf (now (a .page)) (a .row)) (a .here) (a .there) _ (s .before .satisfied .ensures) (not-false _ (s .if1 .left)) _ (p .before .pos-in .ensures)
+    let a = s .before .before .args in
+    row-head (ruleIn (a .row)) (a .here) (a .there) _ (s .before .satisfied .ensures) (not-false _ (s .if1 .left)) _ (p .before .pos-in .ensures)
     (not-false _ (p .if2 .left)) _ (n .before .neg-in .ensures) (n .if3 .left) _ (c .head-holds .ensures)
 
 pub row-holds-spec : {M : Type 1} → statement M

@@ -1,41 +1,34 @@
--- `here_there::rows_hold` goes through the rows and stops at the first that does not hold. What is kept: the row in hand stands at `place`,
--- and the answer for all rows is the answer for those from it on. Assumes nothing.
-use mathlib.Core.Path.{_≡_, refl, sym, ap, _∙_}
-use mathlib.Core.List.{List}
+-- `here_there::rows_hold` goes through the rows and stops at the first that does not hold. What is kept: the answer for all rows is the answer for
+-- those that are left. Assumes nothing.
+use mathlib.Core.Path.{_≡_, refl, sym, _∙_}
+use mathlib.Core.List.{map}
 use Prim.Native.Nat.{_-_, _≤_}
 use native.Mathlib.Omega.{arith}
+use lib.ListN.{length, drop}
 use denote.Ref.{now}
 use borrow.Author.Tests.{not-true, not-false}
-use Rattle.lpod.specs.Rule.{Rule}
 use Rattle.lpod.specs.HereThere.{rowHolds, model}
-use Rattle.page.specs.Program.{rowsFrom, rowsOf, literalPlace}
 use Rattle.page.proofs.Scan.{every-go, every-stop, every-none}
-use Rattle.page.proofs.RowSteps.{at-first, at-next, rest-first, rest-step, rest-none}
+use Rattle.words.specs.Coded.{ruleIn, rulesIn}
+use Rattle.words.proofs.Rest.{rest-step, rest-none}
 use Rattle.routes.proofs.here_there.rows_hold.Statement.{statement}
 use Rattle.routes.proofs.here_there.rows_hold.Tie as tie
 
 abbrev Inv-loop : tie.InvT-loop
-Inv-loop page here there rows place₀ n₀ place n = (n ≤ rows) × (place ≡ literalPlace page n) × (model (rowsOf page) here there ≡ model (rowsFrom page n place (rows - n)) here there)
+Inv-loop rows here there n₀ n = (n ≤ length rows) × (model (rulesIn rows) here there ≡ model (map ruleIn (drop n rows)) here there)
 
 abbrev μ-loop : tie.MeasureT-loop
-μ-loop page here there rows place₀ n₀ place n = rows - n
-
-row-count-requires : tie.Need-row-count-requires Inv-loop μ-loop
-row-count-requires c κs = tt
-
-first-place-requires : tie.Need-first-place-requires Inv-loop μ-loop
-first-place-requires c κs = tt
+μ-loop rows here there n₀ n = length rows - n
 
 loop-holds : tie.Need-loop-holds Inv-loop μ-loop
-loop-holds c =
-    let a = c .before .before .before .args in (
-      omega arith,
-      at-first (now (a .page)) _ (c .first-place .ensures),
-      ap (λ (P : List Rule). model P (a .here) (a .there)) (rest-first (now (a .page)) _ _ (c .first-place .ensures) (c .before .row-count .ensures)),
-    )
+unfolding rulesIn
+loop-holds c = (omega arith, refl)
 
-row-from-requires : tie.Need-row-from-requires Inv-loop μ-loop
-row-from-requires c κs = tt
+mul-row-holds : tie.Need-mul-row-holds Inv-loop μ-loop
+mul-row-holds c = omega (arith, c .before .before .before .good .0)
+
+shared-slice-read-row-holds : tie.Need-shared-slice-read-row-holds Inv-loop μ-loop
+shared-slice-read-row-holds c = omega arith
 
 row-holds-requires : tie.Need-row-holds-requires Inv-loop μ-loop
 row-holds-requires c κs = tt
@@ -44,17 +37,12 @@ returns : tie.Need-returns Inv-loop μ-loop
 unfolding model
 returns c =
     let h = c .before .before .before .before .loop in
-    let page = c .before .before .before .before .before .before .before in
-    let a = page .before .args in
-    let row = c .before .before .row-from in
-    sym (h .inv .2 ∙ every-stop (rowHolds (a .here) (a .there)) _ _ _ (rest-step _ (page .shared-slice-known .given) (h .n) _ (row .result) (omega arith) (h .inv .1) (row .ensures)
-    _ _ (omega arith) refl) (sym (c .before .row-holds .ensures) ∙ not-true _ (c .if1 .taken)))
-
-place-after-requires : tie.Need-place-after-requires Inv-loop μ-loop
-place-after-requires c κs = tt
+    let a = c .before .before .before .before .before .before .args in
+    sym (h .inv .1 ∙ every-stop (rowHolds (a .here) (a .there)) _ _ _ (rest-step ruleIn (now (a .rows)) (h .n) (omega arith) _ refl)
+    (sym (c .before .row-holds .ensures) ∙ not-true _ (c .if1 .taken)))
 
 add-n : tie.Need-add-n Inv-loop μ-loop
-add-n c = omega arith
+add-n c = omega (arith, c .before .before .before .before .before .before .good .0)
 
 loop-less : tie.Need-loop-less Inv-loop μ-loop
 loop-less c = omega arith
@@ -62,22 +50,19 @@ loop-less c = omega arith
 loop-again : tie.Need-loop-again Inv-loop μ-loop
 unfolding model
 loop-again c =
-    let h = c .before .before .before .before .before .loop in
-    let page = c .before .before .before .before .before .before .before .before in
-    let a = page .before .args in
-    let row = c .before .before .before .row-from in (
+    let h = c .before .before .before .before .loop in
+    let a = c .before .before .before .before .before .before .args in (
       omega arith,
-      at-next _ (page .shared-slice-known .given) (h .n) _ (row .result) (omega arith) (h .inv .1) (row .ensures) _ (c .place-after .ensures),
-      h .inv .2 ∙ every-go (rowHolds (a .here) (a .there)) _ _ _ (rest-step _ (page .shared-slice-known .given) (h .n) _ (row .result) (omega arith) (h .inv .1) (row .ensures)
-          _ _ (omega arith) (c .place-after .ensures)) (sym (c .before .before .row-holds .ensures) ∙ not-false _ (c .before .if1 .left)),
+      h .inv .1 ∙ every-go (rowHolds (a .here) (a .there)) _ _ _ (rest-step ruleIn (now (a .rows)) (h .n) (omega arith) _ refl)
+          (sym (c .before .row-holds .ensures) ∙ not-false _ (c .if1 .left)),
     )
 
 returns-2 : tie.Need-returns-2 Inv-loop μ-loop
 unfolding model
 returns-2 c =
     let h = c .before .loop in
-    let a = c .before .before .before .before .before .args in
-    sym (h .inv .2 ∙ every-none (rowHolds (a .here) (a .there)) _ (rest-none (now (a .page)) (h .n) (h .place) _ (omega arith)))
+    let a = c .before .before .before .args in
+    sym (h .inv .1 ∙ every-none (rowHolds (a .here) (a .there)) _ (rest-none ruleIn (now (a .rows)) (h .n) (omega arith)))
 
 pub rows-hold-spec : {M : Type 1} → statement M
 rows-hold-spec =
@@ -85,13 +70,11 @@ rows-hold-spec =
     (tie.spec
     Inv-loop
     μ-loop
-    row-count-requires
-    first-place-requires
     loop-holds
-    row-from-requires
+    mul-row-holds
+    shared-slice-read-row-holds
     row-holds-requires
     returns
-    place-after-requires
     add-n
     loop-less
     loop-again

@@ -4,19 +4,17 @@
 use mathlib.Core.Path.{refl}
 use Prim.Native.Nat.{_-_}
 use native.Mathlib.Omega.{arith}
-use denote.Ref.{now}
-use Rattle.lpod.specs.Rule.{rules}
 use Rattle.lpod.specs.Reduct.{reduct}
-use Rattle.page.specs.Program.{program}
+use Rattle.words.specs.Coded.{rulesWith}
 use Rattle.routes.proofs.Rounds.{Smallest, small-start, small-round, small-fixed, small-grows, small-whole}
 use Rattle.routes.proofs.reduct.least_of.Statement.{statement}
 use Rattle.routes.proofs.reduct.least_of.Tie as tie
 
 abbrev Inv-loop : tie.InvT-loop
-Inv-loop page flags set s₀ s = Smallest (reduct (rules (program page flags)) set) s
+Inv-loop rows flags set s₀ s = Smallest (reduct (rulesWith rows flags) set) s
 
 abbrev μ-loop : tie.MeasureT-loop
-μ-loop page flags set s₀ s = 65536 - s
+μ-loop rows flags set s₀ s = 65536 - s
 
 loop-holds : tie.Need-loop-holds Inv-loop μ-loop
 loop-holds c = small-start _ _ refl

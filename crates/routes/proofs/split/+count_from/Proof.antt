@@ -4,11 +4,12 @@ use mathlib.Core.Path.{_≡_, refl, sym, ap, _∙_}
 use mathlib.Core.Bool.{cond}
 use native.Mathlib.Omega.{arith}
 use denote.Ref.{now}
-use Rattle.page.specs.Fields.{headCount}
+use lib.ListN.{length}
+use Rattle.routes.proofs.SplitRows.{rowAt}
 use Rattle.routes.proofs.SplitSums.{sumBelow, below-more}
 use Rattle.routes.proofs.SplitNumber.{number-down}
 use Rattle.routes.proofs.SplitChoices.{withOption, count-zero, count-step, count-room}
-use Prim.Native.Nat.{ℕ, _+_, _-_, _≤_, _<_, max}
+use Prim.Native.Nat.{ℕ, _-_, _≤_, _<_, max}
 use borrow.Fn.Kinds.{In}
 use borrow.Fn.PlainCycle.{Measures, is, falls, and}
 use Rattle.routes.proofs.split.count_from.Reads as count-from
@@ -43,10 +44,10 @@ claims t = (
 )
 
 abbrev Inv-loop : lts.InvT-loop
-Inv-loop page flags set n choice row at options total₀ k₀ total k = (k ≤ options) × (total ≡ sumBelow k (withOption page flags set row choice))
+Inv-loop rows flags set n choice at options total₀ k₀ total k = (k ≤ options) × (total ≡ sumBelow k (withOption rows flags set at choice))
 
 abbrev μ-loop : lts.MeasureT-loop
-μ-loop page flags set n choice row at options total₀ k₀ total k = options - k
+μ-loop rows flags set n choice at options total₀ k₀ total k = options - k
 
 chosen-answer-requires : (t : ℕ) → lts.Need-chosen-answer-requires (claims t) (at t) count-from.Post Inv-loop μ-loop
 chosen-answer-requires t c κs = c .before .before .before .pre .1 .0
@@ -55,19 +56,22 @@ returns : (t : ℕ) → lts.Need-returns (claims t) (at t) count-from.Post Inv-l
 returns t c =
     let a = c .before .before .before .before .before .args in
     ap (λ b. cond b 1 0) (sym (c .if2 .taken))
-    ∙ count-zero (now (a .page)) (a .flags) (a .set) (a .n) (a .t5) _ (c .before .before .before .if1 .taken) (c .before .chosen-answer .ensures)
+    ∙ count-zero (now (a .rows)) (a .flags) (a .set) (a .n) (a .t5) _ (c .before .before .before .if1 .taken) (c .before .chosen-answer .ensures)
 
 returns-2 : (t : ℕ) → lts.Need-returns-2 (claims t) (at t) count-from.Post Inv-loop μ-loop
 returns-2 t c =
     let a = c .before .before .before .before .before .args in
     ap (λ b. cond b 1 0) (sym (c .if2 .left))
-    ∙ count-zero (now (a .page)) (a .flags) (a .set) (a .n) (a .t5) _ (c .before .before .before .if1 .taken) (c .before .chosen-answer .ensures)
+    ∙ count-zero (now (a .rows)) (a .flags) (a .set) (a .n) (a .t5) _ (c .before .before .before .if1 .taken) (c .before .chosen-answer .ensures)
 
-sub-row : (t : ℕ) → lts.Need-sub-row (claims t) (at t) count-from.Post Inv-loop μ-loop
-sub-row t c = omega arith
+sub-at : (t : ℕ) → lts.Need-sub-at (claims t) (at t) count-from.Post Inv-loop μ-loop
+sub-at t c = omega arith
 
-cast-at : (t : ℕ) → lts.Need-cast-at (claims t) (at t) count-from.Post Inv-loop μ-loop
-cast-at t c = omega arith
+mul-option-count : (t : ℕ) → lts.Need-mul-option-count (claims t) (at t) count-from.Post Inv-loop μ-loop
+mul-option-count t c = omega arith
+
+shared-slice-read-option-count : (t : ℕ) → lts.Need-shared-slice-read-option-count (claims t) (at t) count-from.Post Inv-loop μ-loop
+shared-slice-read-option-count t c = omega arith
 
 option-count-requires : (t : ℕ) → lts.Need-option-count-requires (claims t) (at t) count-from.Post Inv-loop μ-loop
 option-count-requires t c κs = tt
@@ -81,19 +85,19 @@ array-write-next t c = omega arith
 
 count-from-requires : (t : ℕ) → lts.Need-count-from-requires (claims t) (at t) count-from.Post Inv-loop μ-loop
 count-from-requires t c κs =
-    let start = c .before .before .before .before .before in (
+    let start = c .before .before .before .before .before .before in (
       omega arith,
-      (start .pre .1 .0, omega arith, omega (arith, number-down (now (start .args .page)) (start .args .n) (start .args .n - 1) (omega arith))),
+      (start .pre .1 .0, omega arith, omega (arith, number-down (now (start .args .rows)) (start .args .n) (start .args .n - 1) (omega arith) (omega arith))),
     )
 
 add-total : (t : ℕ) → lts.Need-add-total (claims t) (at t) count-from.Post Inv-loop μ-loop
 add-total t c =
-    let start = c .before .before .before .before .before .before in
+    let start = c .before .before .before .before .before .before .before in
     let a = start .args in
     let h = c .before .before .loop in
     omega (
       arith,
-      count-room (now (a .page)) (a .flags) (a .set) (a .n) (a .n - 1) (a .t5) (omega arith) (omega arith) (omega (arith, start .good .1 .1 .1 .1 .0)) (h .k)
+      count-room (now (a .rows)) (a .flags) (a .set) (a .n) (a .n - 1) (a .t5) (omega arith) (omega arith) (omega (arith, start .good .1 .1 .1 .1 .0)) (h .k)
           (omega (arith, c .before .before .before .option-count .ensures)),
       c .count-from .ensures,
     )
@@ -106,18 +110,18 @@ loop-less t c = omega arith
 
 loop-again : (t : ℕ) → lts.Need-loop-again (claims t) (at t) count-from.Post Inv-loop μ-loop
 loop-again t c =
-    let a = c .before .before .before .before .before .before .args in
+    let a = c .before .before .before .before .before .before .before .args in
     let h = c .before .before .loop in
-    (omega arith, omega (arith, below-more (h .k) (withOption (now (a .page)) (a .flags) (a .set) (a .n - 1) (a .t5)), c .count-from .ensures))
+    (omega arith, omega (arith, below-more (h .k) (withOption (now (a .rows)) (a .flags) (a .set) (a .n - 1) (a .t5)), c .count-from .ensures))
 
 returns-3 : (t : ℕ) → lts.Need-returns-3 (claims t) (at t) count-from.Post Inv-loop μ-loop
 returns-3 t c =
-    let start = c .before .before .before .before .before in
+    let start = c .before .before .before .before .before .before in
     let a = start .args in
     let h = c .before .loop in
-    let e : h .k ≡ max 1 (headCount (now (a .page)) (a .n - 1)) = omega (arith, c .before .before .option-count .ensures) in
-    h .inv .1 ∙ ap (λ m. sumBelow m (withOption (now (a .page)) (a .flags) (a .set) (a .n - 1) (a .t5))) e
-    ∙ sym (count-step (now (a .page)) (a .flags) (a .set) (a .n) (a .n - 1) (a .t5) (omega arith) (omega arith) (omega (arith, start .good .1 .1 .1 .1 .0)))
+    let e : h .k ≡ max 1 (length (rowAt (now (a .rows)) (a .n - 1) .head)) = omega (arith, c .before .before .option-count .ensures) in
+    h .inv .1 ∙ ap (λ m. sumBelow m (withOption (now (a .rows)) (a .flags) (a .set) (a .n - 1) (a .t5))) e
+    ∙ sym (count-step (now (a .rows)) (a .flags) (a .set) (a .n) (a .n - 1) (a .t5) (omega arith) (omega arith) (omega (arith, start .good .1 .1 .1 .1 .0)))
 
 pub +count-from-spec : {M : Type 1} → statement M
 +count-from-spec = close μ λ t. lts.spec (claims t)
@@ -128,8 +132,9 @@ pub +count-from-spec : {M : Type 1} → statement M
     (chosen-answer-requires t)
     (returns t)
     (returns-2 t)
-    (sub-row t)
-    (cast-at t)
+    (sub-at t)
+    (mul-option-count t)
+    (shared-slice-read-option-count t)
     (option-count-requires t)
     (loop-holds t)
     (array-write-next t)

@@ -1,6 +1,7 @@
 -- `split::chosen_answer` makes the test that an answer set of a split program is: its rows without head, then its least closed set. Assumes nothing.
 use denote.Ref.{now}
 use borrow.Author.Needs.{needs}
+use Rattle.words.specs.Coded.{rulesIn}
 use Rattle.routes.proofs.SplitRound.{answer-barred, answer-least}
 use Rattle.routes.proofs.split.chosen_answer.Statement.{statement}
 use Rattle.routes.proofs.split.chosen_answer.Tie as tie
@@ -15,13 +16,13 @@ returns : tie.Need-returns
 returns c =
     let a = c .before .before .before .before .args in
     let bars = c .before .before .bars-hold in
-    answer-least (now (a .page)) (a .flags) (a .set) (now (a .choice)) (bars .result) (bars .ensures) (c .before .if1 .taken) _ (c .least-closed .ensures)
+    answer-least (rulesIn (now (a .rows))) (a .flags) (a .set) (now (a .choice)) (bars .result) (bars .ensures) (c .before .if1 .taken) _ (c .least-closed .ensures)
 
 returns-2 : tie.Need-returns-2
 returns-2 c =
     let a = c .before .before .before .args in
     let bars = c .before .bars-hold in
-    answer-barred (now (a .page)) (a .flags) (a .set) (now (a .choice)) (bars .result) (bars .ensures) (c .if1 .left)
+    answer-barred (rulesIn (now (a .rows))) (a .flags) (a .set) (now (a .choice)) (bars .result) (bars .ensures) (c .if1 .left)
 
 pub chosen-answer-spec : {M : Type 1} → statement M
 chosen-answer-spec = tie.close (tie.spec bars-hold-requires least-closed-requires returns returns-2)

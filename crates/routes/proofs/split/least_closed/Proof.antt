@@ -5,17 +5,18 @@ use Prim.Native.Nat.{_-_, _<_}
 use native.Mathlib.Omega.{arith}
 use Rattle.lpod.specs.Least.{fire}
 use Rattle.lpod.specs.Split.{glReduct}
+use Rattle.words.specs.Coded.{rulesIn}
 use Rattle.routes.specs.Choice.{programFrom}
 use Rattle.routes.proofs.Rounds.{Smallest, small-start, small-round, small-fixed, small-grows}
 use Rattle.routes.proofs.split.least_closed.Statement.{statement}
 use Rattle.routes.proofs.split.least_closed.Tie as tie
 
 abbrev Inv-loop : tie.InvT-loop
-Inv-loop page flags set choice s₀ t₀ s t =
-    (t < 65536) × Smallest (glReduct (programFrom page flags 0 choice) set) s × (t ≡ fire (glReduct (programFrom page flags 0 choice) set) s s)
+Inv-loop rows flags set choice s₀ t₀ s t =
+    (t < 65536) × Smallest (glReduct (programFrom (rulesIn rows) flags 0 choice) set) s × (t ≡ fire (glReduct (programFrom (rulesIn rows) flags 0 choice) set) s s)
 
 abbrev μ-loop : tie.MeasureT-loop
-μ-loop page flags set choice s₀ t₀ s t = 65536 - s
+μ-loop rows flags set choice s₀ t₀ s t = 65536 - s
 
 round-requires : tie.Need-round-requires Inv-loop μ-loop
 round-requires c κs = c .before .pre
