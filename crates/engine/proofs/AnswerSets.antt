@@ -27,11 +27,11 @@ use Rattle.page.specs.Refusals.{flagNo}
 use Rattle.page.proofs.Accepted.{ranges}
 use Rattle.page.proofs.AcceptedAtoms.{AtomsBelow, rows-below, flag-page, flags-below}
 use Rattle.words.proofs.Sets.{atoms-set, set-below}
-use Rattle.words.specs.Coded.{rulesIn, programIn, rowTotal, pairTotal, rowWords, pairWords}
+use Rattle.words.specs.Coded.{rulesIn, rowTotal, pairTotal, rowWords, pairWords}
 use Rattle.words.proofs.Lent.{lent-rows, lent-preferred, lent-answer}
 use Rattle.engine.specs.Rank.{prefers}
 use Rattle.engine.specs.Seek.{allFrom}
-use Rattle.engine.specs.Marks.{topOf, tried, marked, marksOf, wordsTo, answerMarks}
+use Rattle.engine.specs.Marks.{topOf, tried, marked, marksOf, wordsTo, wordMarks, answerMarks}
 use Rattle.engine.specs.Search.{bestAmong, soughtBest}
 use Rattle.engine.specs.Lists.{listing}
 use Rattle.engine.specs.Calls.{setsOf}
@@ -135,16 +135,13 @@ pub record Made (page : List ℕ) (flags : ℕ) (rows marks : List ℕ) : Type 0
 pub made : (page : List ℕ) (flags k : ℕ) → k ≡ flagNo page flags → k ≡ 0
     → (n : ℕ) (rows : List ℕ) → n ≡ rowTotal page → take (rowTotal page) rows ≡ rowWords page
     → (q : ℕ) (pairs : List ℕ) → q ≡ pairTotal page → take (pairTotal page) pairs ≡ pairWords page
-    → (top : ℕ) → top ≡ topOf (rulesIn (take n rows)) flags → (words : ℕ) → words ≡ wordsTo top → (bits : List ℕ)
-    → take (wordsTo top) bits ≡ marksOf (tried (answer (programIn (take n rows) (take q pairs) flags)) flags top) (wordsTo top)
-    → Made page flags (take n rows) (take words bits)
+    → (top : ℕ) → top ≡ topOf (rulesIn (take n rows)) flags → Made page flags (take n rows) (wordMarks (take n rows) (take q pairs) flags top (wordsTo top))
 unfolding answerMarks
-made page flags k e z n rows en er q pairs eq ep top et words ew bits eb =
+made page flags k e z n rows en er q pairs eq ep top et =
     let h = flag-page page flags (sym e ∙ z) in
     record {
       marks-are =
-          ap (λ (n : ℕ). take n bits) ew ∙ eb
-          ∙ ap (λ (passes : ℕ → Bool). marksOf (tried passes flags top) (wordsTo top)) (lent-answer page h n rows en er q pairs eq ep flags)
+          ap (λ (passes : ℕ → Bool). marksOf (tried passes flags top) (wordsTo top)) (lent-answer page h n rows en er q pairs eq ep flags)
           ∙ ap (λ (t : ℕ). marksOf (tried (answer (program page flags)) flags t) (wordsTo t)) (et ∙ ap (λ (P : List Rule). topOf P flags) (lent-rows page h n rows en er));
       ranks-as = lent-preferred page h n rows en er flags;
     }

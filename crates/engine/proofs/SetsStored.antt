@@ -1,7 +1,6 @@
 -- Sets stored one after the other at the start of a lent slice: what is done, what is to come, and that there is room for it. And the statement
 -- of a call that lists sets, for each of its ways out. Assumes nothing.
-use mathlib.Core.Path.{_≡_, refl, sym, ap, _∙_}
-use mathlib.Core.Bool.{Bool, true, false}
+use mathlib.Core.Path.{_≡_, refl, sym, ap, _∙_, subst}
 use mathlib.Core.List.{List, [], _∷_, _++_, append-nil}
 use Prim.Native.Nat.{ℕ, suc, _+_, _≤_, _<_}
 use native.Mathlib.Numerals.{add-one}
@@ -10,11 +9,14 @@ use lib.Dec.{ltb}
 use lib.ListN.{length, drop, set, length-append, length-set}
 use lib.Seq.{drop-cons, set-append-seam, append-snoc}
 use borrow.Author.Tests.{ne-eqb, lt-ltb, le-ltb}
-use Rattle.page.specs.Refusals.{flagNo}
+use Rattle.page.specs.Refusals.{refuse, firstThat, flagRefusals, flagNo}
+use Rattle.page.proofs.Refusals.{flag-numbered}
 use Rattle.engine.specs.Entries.{over}
 use Rattle.engine.specs.Calls.{listRefusals, listNo, listed, stored, SetsSay}
 use Rattle.engine.specs.declared.list.Listed.{Listed}
-use Rattle.engine.proofs.LastRefusal.{call-refused, last-refused, none-refused}
+use Rattle.engine.specs.Lists.{RoomSays}
+use Rattle.engine.proofs.Refused.{refused-later}
+use Rattle.engine.proofs.LastRefusal.{call-refused}
 
 -- one entry more
 over-snoc : (xs l : List ℕ) (a k : ℕ) → k ≡ length xs → k < length l → set (over xs l) k a ≡ over (xs ++ (a ∷ [])) l
@@ -63,13 +65,21 @@ module _ (sets page : List ℕ) (flags : ℕ) (out : List ℕ) (k : ℕ) (e : k 
   unfolding listNo listRefusals listed stored
   says-refused z = let n = call-refused page flags k e 11 (ltb (length out) (length sets)) z in (rw (← n, ne-eqb k 0 z), rw (← n, ne-eqb k 0 z))
 
-  pub says-short : k ≡ 0 → length out < length sets → SetsSay sets page flags out (record { no = 11; count = 0 }) out
-  unfolding listNo listRefusals listed stored
-  says-short z h =
-      let n = last-refused page flags k e 11 (ltb (length out) (length sets)) z (lt-ltb (length out) (length sets) h) in (rw (← n), rw (← n))
+  -- else 11 or the sets, as it is found for the lent slice
+  pub says-room : k ≡ 0 → (r : Listed) (after : List ℕ) → RoomSays sets out r after → SetsSay sets page flags out r after
+  unfolding listNo listRefusals flagNo
+  says-room z r after s =
+      let n = refused-later (flagRefusals page flags) (refuse 11 (ltb (length out) (length sets)) ∷ []) (flag-numbered page flags) k e z in
+      (s .0 ∙ ap (λ (m : ℕ). listed m sets) (sym n), s .1 ∙ ap (λ (m : ℕ). stored m sets out) (sym n))
 
-  pub says-stored : k ≡ 0 → length sets ≤ length out → (c : ℕ) (after : List ℕ) → c ≡ length sets → after ≡ over sets out
-      → SetsSay sets page flags out (record { no = 0; count = c }) after
-  unfolding listNo listRefusals listed stored
-  says-stored z h c after ec ea =
-      let n = none-refused page flags k e 11 (ltb (length out) (length sets)) z (le-ltb (length out) (length sets) h) in (rw (← n, ec), rw (← n, ea))
+module _ (sets out : List ℕ) where
+  pub room-short : length out < length sets → RoomSays sets out (record { no = 11; count = 0 }) out
+  unfolding firstThat listed stored
+  room-short h = (rw (lt-ltb (length out) (length sets) h), rw (lt-ltb (length out) (length sets) h))
+
+  pub room-stored : length sets ≤ length out → (c : ℕ) (after : List ℕ) → c ≡ length sets → after ≡ over sets out → RoomSays sets out (record { no = 0; count = c }) after
+  unfolding firstThat listed stored
+  room-stored h c after ec ea = (rw (le-ltb (length out) (length sets) h, ec), ea ∙ rw (le-ltb (length out) (length sets) h))
+
+pub room-same : (out : List ℕ) {l m after : List ℕ} {r : Listed} → l ≡ m → RoomSays l out r after → RoomSays m out r after
+room-same out {l} {m} {after} {r} e s = subst (λ (x : List ℕ). RoomSays x out r after) e s

@@ -9,7 +9,7 @@ use Rattle.lpod.specs.Lists.{keep, below}
 use Rattle.lpod.specs.Rule.{Rule, headAtoms}
 use Rattle.lpod.specs.Answer.{answer}
 use Rattle.page.specs.Program.{rowsOf, program}
-use Rattle.words.specs.Coded.{atomsOf}
+use Rattle.words.specs.Coded.{atomsOf, programIn}
 
 -- the flags with every atom that stands in a head
 unfoldable pub topOf : List Rule → ℕ → ℕ
@@ -38,3 +38,7 @@ wordsTo top = top / 16 + 1
 -- the answer sets of a page and a flag word
 unfoldable pub answerMarks : List ℕ → ℕ → List ℕ
 answerMarks page flags = marksOf (tried (answer (program page flags)) flags (topOf (rowsOf page) flags)) (wordsTo (topOf (rowsOf page) flags))
+
+-- the answer sets of rows and pairs in words and a flag word, up to top: the first n words
+abbrev pub wordMarks : List ℕ → List ℕ → ℕ → ℕ → ℕ → List ℕ
+wordMarks rows pairs flags top n = marksOf (tried (answer (programIn rows pairs flags)) flags top) n

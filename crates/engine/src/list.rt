@@ -3,6 +3,7 @@
 ghost use mathlib.Core.Path.{_≡_};
 ghost use Prim.Native.Nat.{_≤_};
 ghost use lib.ListN.{length};
+ghost use Rattle.engine.specs.Marks.{wordsTo, wordMarks};
 ghost use Rattle.engine.specs.Entries.{over};
 ghost use Rattle.engine.specs.Rank.{prefers};
 ghost use Rattle.engine.specs.Seek.{nextFrom, allFrom};
@@ -63,6 +64,48 @@ fn fill(rows: &[u64], flags: u16, marks: &[u16], which: Which, out: &mut [u16])
     }
 }
 
+// Counts the sets, and stores them where there is room, with the answer sets marked in lent words.
+fn sets_with(
+    rows: &[u64],
+    pairs: &[u16],
+    flags: u16,
+    top: u16,
+    which: Which,
+    marks: &mut [u16],
+    out: &mut [u16],
+) -> Listed
+    requires { ⌜ length (now marks) ≤ 4096 ⌝ }
+    ensures { λ r. ⌜ lists.RoomSays (allFrom (lists.listing (prefers (now (rows .entry)) flags) (wordMarks (now (rows .entry)) (now (pairs .entry)) flags top (length (now (marks .entry)))) which) 0) (now (out .entry)) r (now (out .exit)) ⌝ }
+{
+    marks::answers(rows, pairs, flags, top, &mut *marks);
+    let many = count(rows, flags, &marks[..], which);
+    if out.len() < many as usize {
+        return Listed { no: 11, count: 0 };
+    }
+    fill(rows, flags, &marks[..], which, &mut *out);
+    Listed { no: 0, count: many }
+}
+
+// The same for the sets up to top. A small page needs few words: 16 for eight atoms.
+fn sets_to(
+    rows: &[u64],
+    pairs: &[u16],
+    flags: u16,
+    top: u16,
+    which: Which,
+    out: &mut [u16],
+) -> Listed
+    ensures { λ r. ⌜ lists.RoomSays (allFrom (lists.listing (prefers (now (rows .entry)) flags) (wordMarks (now (rows .entry)) (now (pairs .entry)) flags top (wordsTo top)) which) 0) (now (out .entry)) r (now (out .exit)) ⌝ }
+{
+    let words = marks::words_to(top);
+    if words <= 16 {
+        let mut few = [0u16; 16];
+        return sets_with(rows, pairs, flags, top, which, &mut few[..words], &mut *out);
+    }
+    let mut all = [0u16; 4096];
+    sets_with(rows, pairs, flags, top, which, &mut all[..words], &mut *out)
+}
+
 // Refusals 1 to 9, then 11 for a slice that is too short; else the sets.
 pub fn sets(page: &[u8], flags: u16, which: Which, out: &mut [u16]) -> Listed
     ensures { λ r. ⌜ means.SetsSay (means.setsOf which (program (now (page .entry)) flags)) (now (page .entry)) flags (now (out .entry)) r (now (out .exit)) ⌝ }
@@ -76,14 +119,7 @@ pub fn sets(page: &[u8], flags: u16, which: Which, out: &mut [u16]) -> Listed
     let q = read::pair_total(page);
     let pairs = read::pair_words(page);
     let top = marks::top_of(&rows[..n], flags);
-    let words = marks::words_to(top);
-    let bits = marks::answers(&rows[..n], &pairs[..q], flags, top);
-    let many = count(&rows[..n], flags, &bits[..words], which);
-    if out.len() < many as usize {
-        return Listed { no: 11, count: 0 };
-    }
-    fill(&rows[..n], flags, &bits[..words], which, &mut *out);
-    Listed { no: 0, count: many }
+    sets_to(&rows[..n], &pairs[..q], flags, top, which, &mut *out)
 }
 
 // All answer sets.

@@ -2,8 +2,8 @@
 // between the flags and the flags with all head atoms are tested: on an accepted page no answer set lies elsewhere. The tests take rows and
 // pairs in words. Any words and flag word will do.
 ghost use mathlib.Core.Path.{_≡_};
-ghost use Prim.Native.Nat.{_<_};
-ghost use lib.ListN.{length, take};
+ghost use Prim.Native.Nat.{_≤_, _<_};
+ghost use lib.ListN.{length};
 ghost use Rattle.atoms.specs.Atoms.{union};
 ghost use Rattle.lpod.specs.Rule.{headAtoms};
 ghost use Rattle.lpod.specs.Answer.{answer};
@@ -89,16 +89,14 @@ pub fn words_to(top: u16) -> usize
     (top / 16) as usize + 1
 }
 
-// The bits of all sets up to top, in the first words. No set above top is tried, and the words after these stay 0.
-pub fn answers(rows: &[u64], pairs: &[u16], flags: u16, top: u16) -> [u16; 4096]
-    ensures { λ r. ⌜ (length r ≡ 4096) × (take (means.wordsTo top) r ≡ means.marksOf (means.tried (answer (programIn (now (rows .entry)) (now (pairs .entry)) flags)) flags top) (means.wordsTo top)) ⌝ }
+// The bits of the sets from 0 on, in lent words: as many as are lent.
+pub fn answers(rows: &[u64], pairs: &[u16], flags: u16, top: u16, marks: &mut [u16])
+    requires { ⌜ length (now marks) ≤ 4096 ⌝ }
+    ensures { λ r. ⌜ now (marks .exit) ≡ means.wordMarks (now (rows .entry)) (now (pairs .entry)) flags top (length (now (marks .entry))) ⌝ }
 {
-    let last = top / 16;
-    let mut marks = [0u16; 4096];
-    let mut b: u16 = 0;
-    while b <= last {
-        marks[b as usize] = block(rows, pairs, flags, top, b);
+    let mut b: usize = 0;
+    while b < marks.len() {
+        marks[b] = block(rows, pairs, flags, top, b as u16);
         b += 1;
     }
-    marks
 }

@@ -3,6 +3,7 @@
 use mathlib.Core.Path.{_≡_, sym, ap, _∙_}
 use mathlib.Core.List.{List, []}
 use Prim.Native.Nat.{ℕ, _≤_}
+use native.Mathlib.Omega.{arith}
 use lib.ListN.{length, take}
 use lib.Seq.{length-take-le}
 use Rattle.lpod.specs.Answer.{answer}
@@ -19,6 +20,9 @@ use Rattle.words.proofs.Back.{row-most, rows-back, same-answer, same-pr
 -- the first n words of an array are n words; and those that were made
 pub words-many : (n : ℕ) (words : List ℕ) → n ≤ length words → n ≡ length (take n words)
 words-many n words h = sym (length-take-le n words h)
+
+pub words-most : (n most : ℕ) (words : List ℕ) → n ≤ length words → n ≤ most → length (take n words) ≤ most
+words-most n most words h l = omega (arith, words-many n words h)
 
 pub lent : (n t : ℕ) (words all : List ℕ) → n ≡ t → take t words ≡ all → take n words ≡ all
 lent n t words all e h = ap (λ (k : ℕ). take k words) e ∙ h

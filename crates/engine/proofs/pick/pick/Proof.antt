@@ -1,10 +1,8 @@
 -- `pick::pick` refuses by the first refusal; else it gives the least best set that is found, or 10 where none is. On an accepted page the words mean
 -- its program. Assumes nothing.
-use native.Mathlib.Omega.{arith}
 use denote.Ref.{now}
 use borrow.Author.Needs.{needs}
 use Rattle.words.proofs.Lent.{words-many}
-use Rattle.engine.specs.Marks.{wordsTo}
 use Rattle.engine.proofs.AnswerSets.{made}
 use Rattle.engine.proofs.Picks.{pick-refused, pick-none, pick-found}
 use Rattle.engine.proofs.pick.pick.Statement.{statement}
@@ -39,42 +37,20 @@ slice-aggregate-top-of c = words-many _ _ (array-share-prefix-rows (c .before))
 top-of-requires : tie.Need-top-of-requires
 top-of-requires c κs = search needs
 
-words-to-requires : tie.Need-words-to-requires
-words-to-requires c κs = search needs
-
 array-share-prefix-rows-2 : tie.Need-array-share-prefix-rows-2
 array-share-prefix-rows-2 c = search needs
 
-slice-aggregate-answers : tie.Need-slice-aggregate-answers
-slice-aggregate-answers c = words-many _ _ (array-share-prefix-rows-2 (c .before))
+slice-aggregate-first-best : tie.Need-slice-aggregate-first-best
+slice-aggregate-first-best c = words-many _ _ (array-share-prefix-rows-2 (c .before))
 
 array-share-prefix-pairs : tie.Need-array-share-prefix-pairs
 array-share-prefix-pairs c = search needs
 
-slice-aggregate-answers-2 : tie.Need-slice-aggregate-answers-2
-slice-aggregate-answers-2 c = words-many _ _ (array-share-prefix-pairs (c .before))
+slice-aggregate-first-best-2 : tie.Need-slice-aggregate-first-best-2
+slice-aggregate-first-best-2 c = words-many _ _ (array-share-prefix-pairs (c .before))
 
-answers-requires : tie.Need-answers-requires
-answers-requires c κs = search needs
-
-array-share-prefix-rows-3 : tie.Need-array-share-prefix-rows-3
-array-share-prefix-rows-3 c = search needs
-
-slice-aggregate-next-best : tie.Need-slice-aggregate-next-best
-slice-aggregate-next-best c = words-many _ _ (array-share-prefix-rows-3 (c .before))
-
-array-share-prefix-bits : tie.Need-array-share-prefix-bits
-unfolding wordsTo
-array-share-prefix-bits c =
-    let b = c .before in
-    let v = b .before .before .before in
-    omega (arith, b .answers .ensures .0, v .words-to .ensures, v .before .top-of .ok)
-
-slice-aggregate-next-best-2 : tie.Need-slice-aggregate-next-best-2
-slice-aggregate-next-best-2 c = words-many _ _ (array-share-prefix-bits (c .before))
-
-next-best-requires : tie.Need-next-best-requires
-next-best-requires c κs = search needs
+first-best-requires : tie.Need-first-best-requires
+first-best-requires c κs = search needs
 
 cast-set : tie.Need-cast-set
 cast-set c = search needs
@@ -82,9 +58,7 @@ cast-set c = search needs
 returns-2 : tie.Need-returns-2
 returns-2 c =
     let m = c .before in
-    let b = m .before .before .before in
-    let v = b .before .before .before in
-    let t = v .before in
+    let t = m .before .before .before in
     let p = t .before .before in
     let q = p .before in
     let r = q .before in
@@ -96,16 +70,14 @@ returns-2 c =
     let f =
     made (now (a .page)) (a .flags) (k .flag-no .result) (k .flag-no .ensures) (z .if1 .left) (n .row-total .result) (r .row-words .result) (n .row-total .ensures .0)
     (r .row-words .ensures .1) (q .pair-total .result) (p .pair-words .result) (q .pair-total .ensures .0) (p .pair-words .ensures .1) (t .top-of .result)
-    (t .top-of .ensures) (v .words-to .result) (v .words-to .ensures) (b .answers .result) (b .answers .ensures .1) in
-    pick-found (now (a .page)) (a .flags) (k .flag-no .result) (k .flag-no .ensures) (start .fits .flags .fits) (z .if1 .left) _ (m .next-best .result) (f .marks-are)
-    _ (f .ranks-as) (m .next-best .ensures) (c .if2 .taken)
+    (t .top-of .ensures) in
+    pick-found (now (a .page)) (a .flags) (k .flag-no .result) (k .flag-no .ensures) (start .fits .flags .fits) (z .if1 .left) _ (m .first-best .result) (f .marks-are)
+    _ (f .ranks-as) (m .first-best .ensures) (c .if2 .taken)
 
 returns-3 : tie.Need-returns-3
 returns-3 c =
     let m = c .before in
-    let b = m .before .before .before in
-    let v = b .before .before .before in
-    let t = v .before in
+    let t = m .before .before .before in
     let p = t .before .before in
     let q = p .before in
     let r = q .before in
@@ -117,9 +89,9 @@ returns-3 c =
     let f =
     made (now (a .page)) (a .flags) (k .flag-no .result) (k .flag-no .ensures) (z .if1 .left) (n .row-total .result) (r .row-words .result) (n .row-total .ensures .0)
     (r .row-words .ensures .1) (q .pair-total .result) (p .pair-words .result) (q .pair-total .ensures .0) (p .pair-words .ensures .1) (t .top-of .result)
-    (t .top-of .ensures) (v .words-to .result) (v .words-to .ensures) (b .answers .result) (b .answers .ensures .1) in
-    pick-none (now (a .page)) (a .flags) (k .flag-no .result) (k .flag-no .ensures) (start .fits .flags .fits) (z .if1 .left) _ (m .next-best .result) (f .marks-are)
-    _ (f .ranks-as) (m .next-best .ensures) (c .if2 .left)
+    (t .top-of .ensures) in
+    pick-none (now (a .page)) (a .flags) (k .flag-no .result) (k .flag-no .ensures) (start .fits .flags .fits) (z .if1 .left) _ (m .first-best .result) (f .marks-are)
+    _ (f .ranks-as) (m .first-best .ensures) (c .if2 .left)
 
 pub pick-spec : {M : Type 1} → statement M
 pick-spec =
@@ -134,17 +106,11 @@ pick-spec =
     array-share-prefix-rows
     slice-aggregate-top-of
     top-of-requires
-    words-to-requires
     array-share-prefix-rows-2
-    slice-aggregate-answers
+    slice-aggregate-first-best
     array-share-prefix-pairs
-    slice-aggregate-answers-2
-    answers-requires
-    array-share-prefix-rows-3
-    slice-aggregate-next-best
-    array-share-prefix-bits
-    slice-aggregate-next-best-2
-    next-best-requires
+    slice-aggregate-first-best-2
+    first-best-requires
     cast-set
     returns-2
     returns-3)
