@@ -1,11 +1,11 @@
--- For every public call of atoms, lpod, page, routes and engine: any two answers that its statement allows are equal, and so is the lent memory
+-- For every public call of atoms, lpod, page, words, routes and engine: any two answers that its statement allows are equal, and so is the lent memory
 -- afterwards. Each statement is one equation or two, so this is short; it would fail for a statement that left something open.
 -- There is no exception. Assumes nothing.
 use mathlib.Core.Path.{_≡_, sym, _∙_}
 use mathlib.Core.Bool.{Bool}
 use mathlib.Core.List.{List}
-use Prim.Native.Nat.{ℕ}
-use lib.ListN.{getD}
+use Prim.Native.Nat.{ℕ, _-_, _≤_}
+use lib.ListN.{length, getD, take, drop, replicate, take-append-drop}
 use Rattle.atoms.specs.Atoms as sets
 use Rattle.lpod.specs.Rule.{mostAtoms}
 use Rattle.lpod.specs.Satisfied.{allIn, someIn, bodyHolds, satisfies, satisfiesAll, noPair}
@@ -17,7 +17,7 @@ use Rattle.lpod.specs.Degree.{place, degree}
 use Rattle.page.specs.Fields as fields
 use Rattle.page.specs.Refusals as refusals
 use Rattle.page.specs.Letter.{letterOf}
-use Rattle.page.specs.Program.{rowsOf, pairsOf, literalPlace}
+use Rattle.page.specs.Program.{literalPlace}
 use Rattle.page.specs.Rows as rows
 use Rattle.page.specs.Reader.{said, rowSaid, numberAfter}
 use Rattle.page.specs.declared.rows.Row.{Row}
@@ -27,7 +27,7 @@ use Rattle.routes.specs.Tests.{ReductSays, HereThereSays}
 use Rattle.routes.specs.Split.{SplitSays}
 use Rattle.routes.specs.declared.Verdict.{Verdict}
 use Rattle.routes.specs.declared.split.Split.{Split}
-use Rattle.words.specs.Coded.{rulesWith, programIn}
+use Rattle.words.specs.Coded as coded
 use Rattle.engine.specs.Calls.{SetsSay, ListSays, BestSays, PickSays}
 use Rattle.engine.specs.Rank.{PreferredSays}
 use Rattle.engine.specs.Degrees.{DegreesSays}
@@ -151,45 +151,72 @@ place-after row x y = one-answer
 pub place-of : (page : List ℕ) (n : ℕ) (x y : ℕ) → x ≡ literalPlace page n → y ≡ literalPlace page n → x ≡ y
 place-of page n x y = one-answer
 
-pub pos-in : (page : List ℕ) (row : Row) (s : ℕ) (x y : Bool) → x ≡ allIn (rows.ruleOf page row .pos) s → y ≡ allIn (rows.ruleOf page row .pos) s → x ≡ y
-pos-in page row s x y = one-answer
+-- words::read
+pub row-total : (page : List ℕ) (x y : ℕ) → (x ≡ coded.rowTotal page) × (x ≤ 32) → (y ≡ coded.rowTotal page) × (y ≤ 32) → x ≡ y
+row-total page x y p q = one-answer (p .0) (q .0)
 
-pub neg-in : (page : List ℕ) (row : Row) (s : ℕ) (x y : Bool) → x ≡ someIn (rows.ruleOf page row .neg) s → y ≡ someIn (rows.ruleOf page row .neg) s → x ≡ y
-neg-in page row s x y = one-answer
+pub pair-total : (page : List ℕ) (x y : ℕ) → (x ≡ coded.pairTotal page) × (x ≤ 8) → (y ≡ coded.pairTotal page) × (y ≤ 8) → x ≡ y
+pair-total page x y p q = one-answer (p .0) (q .0)
 
-pub head-in : (page : List ℕ) (row : Row) (s : ℕ) (x y : Bool) → x ≡ someIn (rows.ruleOf page row .head) s → y ≡ someIn (rows.ruleOf page row .head) s → x ≡ y
-head-in page row s x y = one-answer
+-- so many words first, and 0 after them
+padded : (n t : ℕ) (l x y : List ℕ) → (length x ≡ n) × (take t x ≡ l) × (drop t x ≡ replicate (n - t) 0)
+    → (length y ≡ n) × (take t y ≡ l) × (drop t y ≡ replicate (n - t) 0) → x ≡ y
+padded n t l x y p q = sym (take-append-drop t x) ∙ rw (p .1, p .2, ← q .1, ← q .2) (take-append-drop t y)
 
-pub head-place : (page : List ℕ) (row : Row) (s : ℕ) (x y : ℕ) → x ≡ place 1 (rows.ruleOf page row .head) s → y ≡ place 1 (rows.ruleOf page row .head) s → x ≡ y
-head-place page row s x y = one-answer
+pub row-words : (page x y : List ℕ)
+    → (length x ≡ 32) × (take (coded.rowTotal page) x ≡ coded.rowWords page) × (drop (coded.rowTotal page) x ≡ replicate (32 - coded.rowTotal page) 0)
+    → (length y ≡ 32) × (take (coded.rowTotal page) y ≡ coded.rowWords page) × (drop (coded.rowTotal page) y ≡ replicate (32 - coded.rowTotal page) 0) → x ≡ y
+row-words page x y = padded 32 (coded.rowTotal page) (coded.rowWords page) x y
 
-pub head-atom : (page : List ℕ) (row : Row) (k : ℕ) (x y : ℕ) → x ≡ getD (rows.ruleOf page row .head) k 0 → y ≡ getD (rows.ruleOf page row .head) k 0 → x ≡ y
-head-atom page row k x y = one-answer
+pub pair-words : (page x y : List ℕ)
+    → (length x ≡ 8) × (take (coded.pairTotal page) x ≡ coded.pairWords page) × (drop (coded.pairTotal page) x ≡ replicate (8 - coded.pairTotal page) 0)
+    → (length y ≡ 8) × (take (coded.pairTotal page) y ≡ coded.pairWords page) × (drop (coded.pairTotal page) y ≡ replicate (8 - coded.pairTotal page) 0) → x ≡ y
+pair-words page x y = padded 8 (coded.pairTotal page) (coded.pairWords page) x y
 
-pub body-holds : (page : List ℕ) (row : Row) (s : ℕ) (x y : Bool) → x ≡ bodyHolds (rows.ruleOf page row) s → y ≡ bodyHolds (rows.ruleOf page row) s → x ≡ y
-body-holds page row s x y = one-answer
+-- words::row
+pub pos-in : (row s : ℕ) (x y : Bool) → x ≡ allIn (coded.ruleIn row .pos) s → y ≡ allIn (coded.ruleIn row .pos) s → x ≡ y
+pos-in row s x y = one-answer
 
-pub satisfied : (page : List ℕ) (row : Row) (s : ℕ) (x y : Bool) → x ≡ satisfies s (rows.ruleOf page row) → y ≡ satisfies s (rows.ruleOf page row) → x ≡ y
-satisfied page row s x y = one-answer
+pub neg-in : (row s : ℕ) (x y : Bool) → x ≡ someIn (coded.ruleIn row .neg) s → y ≡ someIn (coded.ruleIn row .neg) s → x ≡ y
+neg-in row s x y = one-answer
 
-pub row-degree : (page : List ℕ) (row : Row) (s : ℕ) (x y : ℕ) → x ≡ degree s (rows.ruleOf page row) → y ≡ degree s (rows.ruleOf page row) → x ≡ y
-row-degree page row s x y = one-answer
+pub word-head-count : (row : ℕ) (x y : ℕ) → x ≡ length (coded.ruleIn row .head) → y ≡ length (coded.ruleIn row .head) → x ≡ y
+word-head-count row x y = one-answer
 
-pub no-pair : (page : List ℕ) (s : ℕ) (x y : Bool) → x ≡ noPair (pairsOf page) s → y ≡ noPair (pairsOf page) s → x ≡ y
-no-pair page s x y = one-answer
+pub head-in : (row s : ℕ) (x y : Bool) → x ≡ someIn (coded.ruleIn row .head) s → y ≡ someIn (coded.ruleIn row .head) s → x ≡ y
+head-in row s x y = one-answer
 
-pub rows-satisfied : (page : List ℕ) (s : ℕ) (x y : Bool) → x ≡ satisfiesAll s (rowsOf page) → y ≡ satisfiesAll s (rowsOf page) → x ≡ y
-rows-satisfied page s x y = one-answer
+pub head-place : (row s : ℕ) (x y : ℕ) → x ≡ place 1 (coded.ruleIn row .head) s → y ≡ place 1 (coded.ruleIn row .head) s → x ≡ y
+head-place row s x y = one-answer
+
+pub head-atom : (row k : ℕ) (x y : ℕ) → x ≡ getD (coded.ruleIn row .head) k 0 → y ≡ getD (coded.ruleIn row .head) k 0 → x ≡ y
+head-atom row k x y = one-answer
+
+pub body-holds : (row s : ℕ) (x y : Bool) → x ≡ bodyHolds (coded.ruleIn row) s → y ≡ bodyHolds (coded.ruleIn row) s → x ≡ y
+body-holds row s x y = one-answer
+
+pub satisfied : (row s : ℕ) (x y : Bool) → x ≡ satisfies s (coded.ruleIn row) → y ≡ satisfies s (coded.ruleIn row) → x ≡ y
+satisfied row s x y = one-answer
+
+pub row-degree : (row s : ℕ) (x y : ℕ) → x ≡ degree s (coded.ruleIn row) → y ≡ degree s (coded.ruleIn row) → x ≡ y
+row-degree row s x y = one-answer
+
+-- words::rows
+pub no-pair : (pairs : List ℕ) (s : ℕ) (x y : Bool) → x ≡ noPair (coded.pairsIn pairs) s → y ≡ noPair (coded.pairsIn pairs) s → x ≡ y
+no-pair pairs s x y = one-answer
+
+pub rows-satisfied : (rows : List ℕ) (s : ℕ) (x y : Bool) → x ≡ satisfiesAll s (coded.rulesIn rows) → y ≡ satisfiesAll s (coded.rulesIn rows) → x ≡ y
+rows-satisfied rows s x y = one-answer
 
 -- routes::reduct
-pub least-of : (words : List ℕ) (flags set : ℕ) (x y : ℕ) → x ≡ least (reduct (rulesWith words flags) set) → y ≡ least (reduct (rulesWith words flags) set) → x ≡ y
+pub least-of : (words : List ℕ) (flags set : ℕ) (x y : ℕ) → x ≡ least (reduct (coded.rulesWith words flags) set) → y ≡ least (reduct (coded.rulesWith words flags) set) → x ≡ y
 least-of words flags set x y = one-answer
 
-pub is-answer : (words pairs : List ℕ) (flags set : ℕ) (x y : Bool) → x ≡ answer (programIn words pairs flags) set → y ≡ answer (programIn words pairs flags) set → x ≡ y
+pub is-answer : (words pairs : List ℕ) (flags set : ℕ) (x y : Bool) → x ≡ answer (coded.programIn words pairs flags) set → y ≡ answer (coded.programIn words pairs flags) set → x ≡ y
 is-answer words pairs flags set x y = one-answer
 
 -- routes::here_there
-pub is-here-there : (words pairs : List ℕ) (flags set : ℕ) (x y : Bool) → x ≡ hereThere (programIn words pairs flags) set → y ≡ hereThere (programIn words pairs flags) set → x ≡ y
+pub is-here-there : (words pairs : List ℕ) (flags set : ℕ) (x y : Bool) → x ≡ hereThere (coded.programIn words pairs flags) set → y ≡ hereThere (coded.programIn words pairs flags) set → x ≡ y
 is-here-there words pairs flags set x y = one-answer
 
 -- engine::rank

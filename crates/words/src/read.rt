@@ -1,7 +1,7 @@
 // From a page to words. This is the one place that reads literals and pairs for the tests of sets, each once for a call. Any page will do.
 ghost use mathlib.Core.Path.{_≡_};
-ghost use Prim.Native.Nat.{_%_, _^_, _≤_};
-ghost use lib.ListN.{length, take};
+ghost use Prim.Native.Nat.{_-_, _%_, _^_, _≤_};
+ghost use lib.ListN.{length, take, drop, replicate};
 ghost use Rattle.page.specs.Fields.{wordAt};
 ghost use Rattle.page.specs.Program.{literals};
 ghost use Rattle.page.specs.Rows.{ruleOf};
@@ -75,9 +75,9 @@ fn row_word(page: &[u8], row: rows::Row) -> u64
     pos + 65536 * neg + 4294967296 * (count as u64) + 1099511627776 * head
 }
 
-// The word of each row, in row order.
+// The word of each row, in row order; the words after these are 0.
 pub fn row_words(page: &[u8]) -> [u64; 32]
-    ensures { λ r. ⌜ (length r ≡ 32) × (take (means.rowTotal (now (page .entry))) r ≡ means.rowWords (now (page .entry))) ⌝ }
+    ensures { λ r. ⌜ (length r ≡ 32) × (take (means.rowTotal (now (page .entry))) r ≡ means.rowWords (now (page .entry))) × (drop (means.rowTotal (now (page .entry))) r ≡ replicate (32 - means.rowTotal (now (page .entry))) 0) ⌝ }
 {
     let total = row_total(page);
     let mut words = [0u64; 32];
@@ -102,9 +102,9 @@ fn pair_word(page: &[u8], at: usize) -> u16
     one + 256 * other
 }
 
-// The word of each pair, in the page's order.
+// The word of each pair, in the page's order; the words after these are 0.
 pub fn pair_words(page: &[u8]) -> [u16; 8]
-    ensures { λ r. ⌜ (length r ≡ 8) × (take (means.pairTotal (now (page .entry))) r ≡ means.pairWords (now (page .entry))) ⌝ }
+    ensures { λ r. ⌜ (length r ≡ 8) × (take (means.pairTotal (now (page .entry))) r ≡ means.pairWords (now (page .entry))) × (drop (means.pairTotal (now (page .entry))) r ≡ replicate (8 - means.pairTotal (now (page .entry))) 0) ⌝ }
 {
     let many = pair_total(page);
     let mut words = [0u16; 8];

@@ -6,18 +6,19 @@ use Prim.Native.Nat.{ℕ, _+_, _-_, _≤_, _<_}
 use native.Mathlib.Nat.{sub-zero}
 use native.Mathlib.Omega.{arith}
 use denote.Ref.{now}
-use lib.ListN.{length, take, length-set}
+use lib.ListN.{length, take, drop, replicate, length-set}
 use Rattle.lpod.specs.Rule.{Rule}
 use Rattle.page.specs.Program.{rowsFrom, literalPlace}
 use Rattle.page.proofs.RowSteps.{at-first, at-next, rest-step, rest-none}
 use Rattle.words.specs.Coded.{rowWord, rowTotal, rowWords}
-use Rattle.words.proofs.Filled.{filled-more, filled-all}
+use Rattle.words.proofs.Filled.{filled-more, filled-all, blank-more, blank-rest}
 use Rattle.words.proofs.read.row_words.Statement.{statement}
 use Rattle.words.proofs.read.row_words.Tie as tie
 
 abbrev Inv-loop : tie.InvT-loop
 Inv-loop page total words₀ place₀ n₀ words place n =
     (n ≤ total) × (place ≡ literalPlace page n) × (length words ≡ 32) × (take n words ++ map rowWord (rowsFrom page n place (total - n)) ≡ rowWords page)
+    × (drop n words ≡ replicate (32 - n) 0)
 
 abbrev μ-loop : tie.MeasureT-loop
 μ-loop page total words₀ place₀ n₀ words place n = total - n
@@ -30,7 +31,7 @@ first-place-requires c κs = tt
 
 loop-holds : tie.Need-loop-holds Inv-loop μ-loop
 unfolding rowWords
-loop-holds c = (omega arith, at-first _ _ (c .first-place .ensures), refl, rw (sub-zero, c .first-place .ensures, c .before .row-total .ensures .0))
+loop-holds c = (omega arith, at-first _ _ (c .first-place .ensures), refl, rw (sub-zero, c .first-place .ensures, c .before .row-total .ensures .0), refl)
 
 cast-row-from : tie.Need-cast-row-from Inv-loop μ-loop
 cast-row-from c = omega arith
@@ -75,6 +76,7 @@ loop-again c =
       filled-more (h .words) _ _ _ (h .n) (w .result) (omega (arith, h .inv .2, start .row-total .ensures .1)) (h .inv .3)
           (to-come _ _ _ (w .result) (rest-step _ (page .shared-slice-known .given) (h .n) _ (row .result) small (h .inv .1) (row .ensures) total _ (omega arith)
           (c .place-after .ensures)) (w .ensures)),
+      blank-more (h .words) (h .n) (w .result) (32 - h .n) (32 - (h .n + 1)) (h .inv .4) (omega (arith, start .row-total .ensures .1)),
     )
 
 returns : tie.Need-returns Inv-loop μ-loop
@@ -82,8 +84,11 @@ returns c =
     let h = c .before .loop in
     let total = c .before .before .before .row-total in
     let page = now (c .before .before .before .before .before .args .page) in
-    let e : rowTotal page ≡ h .n = omega (arith, total .ensures .0) in
-    (h .inv .2, filled-all (h .words) _ _ (h .n) _ (h .inv .3) (ap (map rowWord) (rest-none page (h .n) (h .place) (total .result) (omega arith))) e)
+    let e : rowTotal page ≡ h .n = omega (arith, total .ensures .0) in (
+      h .inv .2,
+      filled-all (h .words) _ _ (h .n) _ (h .inv .3) (ap (map rowWord) (rest-none page (h .n) (h .place) (total .result) (omega arith))) e,
+      blank-rest (h .words) (h .n) _ 32 (h .inv .4) e,
+    )
 
 pub row-words-spec : {M : Type 1} → statement M
 row-words-spec =
