@@ -2,28 +2,28 @@
    when the tests themselves are tested.
 
    One set at a time. Only numbers between the flag word and the flag word with all head atoms are tested, since no
-   other can be an answer set. Pick and best climb to a champion and skip what it beats. The page is checked once for
-   each call, and bodies are read from its bytes. Lists run once to count and once to store, because a refused call
-   must store nothing. */
+   other can be an answer set; 16 numbers that cannot be between are passed over at once. Pick and best climb to a
+   champion and skip what it beats. The page is checked once for each call, and its rows are read once, each body into
+   a set. Lists run once to count and once to store, because a refused call must store nothing. */
 #include "plain.h"
 
 enum { NONE = 65536 }; /* no set: one more than the greatest */
 
+/* One row: its bodies as sets, its head from the most wanted atom on. */
+typedef struct {
+    uint16_t positive, negative;
+    uint8_t heads, head[6];
+} Row;
+
 /* A page that was accepted, and a flag word that fits it. */
 typedef struct {
-    const uint8_t *page;
-    const uint8_t *literals, *pairs;
-    unsigned atoms, rows, pair_count;
+    Row row[32];
+    uint8_t pair[8][2];
+    unsigned rows, pairs;
     uint16_t flags;
     uint16_t reach; /* flags and head atoms: nothing else can be in an answer set */
     uint16_t marks[4096]; /* a bit for each set: it is an answer set. Only what `mark` wrote is read */
 } Program;
-
-/* One row, as the page's bytes have it. */
-typedef struct {
-    const uint8_t *head, *positive, *negative;
-    unsigned heads, positives, negatives;
-} Row;
 
 static uint32_t refused(unsigned number) { return (uint32_t)number << 16; }
 static int holds(uint16_t set, uint8_t atom) { return set >> atom & 1; }
@@ -100,53 +100,40 @@ static int page_fault(const uint8_t *page, size_t length) {
 
 static int stray(const uint8_t *page, uint16_t word) { return word >> page[2] != 0; }
 
-/* Accepts the page and the flag word, or answers the first refusal of 1 to 9. */
+static uint16_t set_of(const uint8_t *list, unsigned count) {
+    unsigned set = 0;
+    for (unsigned i = 0; i < count; i++) set |= 1u << list[i];
+    return (uint16_t)set;
+}
+
+/* Accepts the page and the flag word and reads the rows and pairs, or answers the first refusal of 1 to 9. */
 static int open(Program *p, const uint8_t *page, size_t length, uint16_t flags) {
     int fault = page_fault(page, length);
     if (fault) return fault;
     if (stray(page, flags)) return 9;
-    p->page = page;
-    p->atoms = page[2];
     p->rows = page[4];
-    p->literals = page + 18 + 4 * p->rows;
-    p->pairs = page + field(page, 14);
-    p->pair_count = page[8];
+    p->pairs = page[8];
     p->flags = flags;
     p->reach = flags;
-    const uint8_t *at = p->literals;
+    const uint8_t *at = page + 18 + 4 * p->rows;
     for (unsigned r = 0; r < p->rows; r++) {
-        const uint8_t *row = page + 18 + 4 * r;
-        for (unsigned i = 0; i < row[0]; i++) p->reach = (uint16_t)(p->reach | 1u << at[i]);
-        at += row[0] + row[1] + row[2];
+        const uint8_t *count = page + 18 + 4 * r;
+        Row *row = &p->row[r];
+        row->heads = count[0];
+        for (unsigned i = 0; i < count[0]; i++) row->head[i] = at[i];
+        row->positive = set_of(at + count[0], count[1]);
+        row->negative = set_of(at + count[0] + count[1], count[2]);
+        p->reach = (uint16_t)(p->reach | set_of(at, count[0]));
+        at += count[0] + count[1] + count[2];
     }
+    for (unsigned q = 0; q < p->pairs; q++, at += 2) p->pair[q][0] = at[0], p->pair[q][1] = at[1];
     return 0;
-}
-
-/* Row r, whose literals start at `at`; answers where the next row's start. */
-static const uint8_t *read_row(const Program *p, unsigned r, const uint8_t *at, Row *row) {
-    const uint8_t *counts = p->page + 18 + 4 * r;
-    row->heads = counts[0];
-    row->positives = counts[1];
-    row->negatives = counts[2];
-    row->head = at;
-    row->positive = at + row->heads;
-    row->negative = row->positive + row->positives;
-    return row->negative + row->negatives;
 }
 
 /* ---- one set ---- */
 
-static int all_in(const uint8_t *list, unsigned count, uint16_t set) {
-    for (unsigned i = 0; i < count; i++)
-        if (!holds(set, list[i])) return 0;
-    return 1;
-}
-
-static int none_in(const uint8_t *list, unsigned count, uint16_t set) {
-    for (unsigned i = 0; i < count; i++)
-        if (holds(set, list[i])) return 0;
-    return 1;
-}
+static int all_in(uint16_t list, uint16_t set) { return (list & set) == list; }
+static int none_in(uint16_t list, uint16_t set) { return (list & set) == 0; }
 
 /* The place from 1 of the first head atom in the set, 0 if there is none. */
 static unsigned first_in(const Row *row, uint16_t set) {
@@ -156,35 +143,28 @@ static unsigned first_in(const Row *row, uint16_t set) {
 }
 
 static int body_holds(const Row *row, uint16_t set) {
-    return all_in(row->positive, row->positives, set) && none_in(row->negative, row->negatives, set);
+    return all_in(row->positive, set) && none_in(row->negative, set);
 }
 
 static int no_pair(const Program *p, uint16_t set) {
-    for (unsigned q = 0; q < p->pair_count; q++)
-        if (holds(set, p->pairs[2 * q]) && holds(set, p->pairs[2 * q + 1])) return 0;
+    for (unsigned q = 0; q < p->pairs; q++)
+        if (holds(set, p->pair[q][0]) && holds(set, p->pair[q][1])) return 0;
     return 1;
 }
 
 static int satisfies(const Program *p, uint16_t set) {
-    Row row;
-    const uint8_t *at = p->literals;
-    for (unsigned r = 0; r < p->rows; r++) {
-        at = read_row(p, r, at, &row);
-        if (body_holds(&row, set) && first_in(&row, set) == 0) return 0;
-    }
+    for (const Row *row = p->row; row < p->row + p->rows; row++)
+        if (body_holds(row, set) && first_in(row, set) == 0) return 0;
     return 1;
 }
 
 /* One round: what the reduct of `set` gives from `now`, with `now`. */
 static uint16_t reduct_round(const Program *p, uint16_t set, uint16_t now) {
-    Row row;
-    const uint8_t *at = p->literals;
     uint16_t next = now;
-    for (unsigned r = 0; r < p->rows; r++) {
-        at = read_row(p, r, at, &row);
-        if (!all_in(row.positive, row.positives, now) || !none_in(row.negative, row.negatives, set)) continue;
-        unsigned place = first_in(&row, set);
-        if (place) next = (uint16_t)(next | 1u << row.head[place - 1]);
+    for (const Row *row = p->row; row < p->row + p->rows; row++) {
+        if (!all_in(row->positive, now) || !none_in(row->negative, set)) continue;
+        unsigned place = first_in(row, set);
+        if (place) next = (uint16_t)(next | 1u << row->head[place - 1]);
     }
     return next;
 }
@@ -205,15 +185,12 @@ static int is_answer(const Program *p, uint16_t set) {
 /* ---- here-and-there, every part of the set in turn ---- */
 
 static int here_there_model(const Program *p, uint16_t here, uint16_t there) {
-    Row row;
-    const uint8_t *at = p->literals;
     if (p->flags & ~here) return 0;
-    for (unsigned r = 0; r < p->rows; r++) {
-        at = read_row(p, r, at, &row);
-        unsigned place = first_in(&row, there);
-        if (body_holds(&row, there) && place == 0) return 0;
-        if (!all_in(row.positive, row.positives, here) || !none_in(row.negative, row.negatives, there)) continue;
-        if (place == 0 || !holds(here, row.head[place - 1])) return 0;
+    for (const Row *row = p->row; row < p->row + p->rows; row++) {
+        unsigned place = first_in(row, there);
+        if (body_holds(row, there) && place == 0) return 0;
+        if (!all_in(row->positive, here) || !none_in(row->negative, there)) continue;
+        if (place == 0 || !holds(here, row->head[place - 1])) return 0;
     }
     return 1;
 }
@@ -232,8 +209,7 @@ static int is_equilibrium(const Program *p, uint16_t set) {
 static unsigned split_programs(const Program *p) {
     unsigned product = 1;
     for (unsigned r = 0; r < p->rows && product <= 4096; r++) {
-        unsigned heads = p->page[18 + 4 * r];
-        if (heads > 1) product *= heads;
+        if (p->row[r].heads > 1) product *= p->row[r].heads;
     }
     return product;
 }
@@ -241,33 +217,28 @@ static unsigned split_programs(const Program *p) {
 /* The set is an answer set of the split program with these options (option from 0 on, headless rows have none). */
 static int split_answer(const Program *p, uint16_t set, const uint8_t *option) {
     uint16_t now = p->flags, next;
-    Row row;
     if (p->flags & ~set) return 0;
     for (;;) {
-        const uint8_t *at = p->literals;
         next = now;
         for (unsigned r = 0; r < p->rows; r++) {
-            at = read_row(p, r, at, &row);
-            if (row.heads == 0) continue;
-            if (!none_in(row.negative, row.negatives, set) || !none_in(row.head, option[r], set)) continue;
-            if (all_in(row.positive, row.positives, now)) next = (uint16_t)(next | 1u << row.head[option[r]]);
+            const Row *row = &p->row[r];
+            if (row->heads == 0) continue;
+            if (!none_in(row->negative, set) || !none_in(set_of(row->head, option[r]), set)) continue;
+            if (all_in(row->positive, now)) next = (uint16_t)(next | 1u << row->head[option[r]]);
         }
         if (next == now) break;
         now = next;
     }
     if (now != set) return 0;
-    const uint8_t *at = p->literals;
-    for (unsigned r = 0; r < p->rows; r++) {
-        at = read_row(p, r, at, &row);
-        if (row.heads == 0 && body_holds(&row, set)) return 0;
-    }
+    for (const Row *row = p->row; row < p->row + p->rows; row++)
+        if (row->heads == 0 && body_holds(row, set)) return 0;
     return 1;
 }
 
 /* How many choices for the rows below `row` have the set, those above being chosen. */
 static unsigned count_splits(const Program *p, uint16_t set, unsigned row, uint8_t *option) {
     if (row == 0) return (unsigned)split_answer(p, set, option);
-    unsigned heads = p->page[18 + 4 * (row - 1)], count = 0;
+    unsigned heads = p->row[row - 1].heads, count = 0;
     if (heads == 0) heads = 1;
     for (unsigned k = 0; k < heads; k++) {
         option[row - 1] = (uint8_t)k;
@@ -279,12 +250,7 @@ static unsigned count_splits(const Program *p, uint16_t set, unsigned row, uint8
 /* ---- degrees and preference ---- */
 
 static void degrees_of(const Program *p, uint16_t set, uint8_t *degrees) {
-    Row row;
-    const uint8_t *at = p->literals;
-    for (unsigned r = 0; r < p->rows; r++) {
-        at = read_row(p, r, at, &row);
-        degrees[r] = body_holds(&row, set) ? (uint8_t)first_in(&row, set) : 1;
-    }
+    for (unsigned r = 0; r < p->rows; r++) degrees[r] = body_holds(&p->row[r], set) ? (uint8_t)first_in(&p->row[r], set) : 1;
 }
 
 /* M, with degrees m, is preferred to N. The first degree at which the collections differ is the least degree of a row
@@ -311,20 +277,19 @@ static int in_reach(const Program *p, uint32_t set) {
 static void mark(Program *p) {
     for (uint32_t block = 0; block <= p->reach / 16u; block++) {
         uint16_t bits = 0;
-        for (uint32_t j = 0; j < 16; j++)
+        int between = !(p->flags / 16 & ~block) && !(block & ~(p->reach / 16u)); /* by what the 16 sets share */
+        for (uint32_t j = 0; between && j < 16; j++)
             if (in_reach(p, 16 * block + j) && is_answer(p, (uint16_t)(16 * block + j))) bits = (uint16_t)(bits | 1u << j);
         p->marks[block] = bits;
     }
 }
 
-static int marked(const Program *p, uint32_t set) {
-    return p->marks[set / 16] >> set % 16 & 1;
-}
-
-/* The least answer set from `from` on. */
+/* The least answer set from `from` on; a word of marks with no bit left is passed over. */
 static uint32_t next_set(const Program *p, uint32_t from) {
-    for (uint32_t s = from; s <= p->reach; s++)
-        if (marked(p, s)) return s;
+    for (uint32_t s = from; s <= p->reach; s = (s | 15) + 1) {
+        unsigned left = (unsigned)p->marks[s / 16] >> s % 16;
+        if (left) return s + (uint32_t)__builtin_ctz(left);
+    }
     return NONE;
 }
 
@@ -332,8 +297,7 @@ static uint32_t next_set(const Program *p, uint32_t from) {
 static uint32_t next_better(const Program *p, uint32_t m, uint32_t from) {
     uint8_t old[32], degrees[32];
     degrees_of(p, (uint16_t)m, old);
-    for (uint32_t s = from; s <= p->reach; s++) {
-        if (!marked(p, s)) continue;
+    for (uint32_t s = next_set(p, from); s != NONE; s = next_set(p, s + 1)) {
         degrees_of(p, (uint16_t)s, degrees);
         if (preferred(p, degrees, old)) return s;
     }
@@ -345,8 +309,7 @@ static uint32_t next_unbeaten(const Program *p, uint32_t from, uint32_t champion
     uint8_t top[32], degrees[32];
     if (champion == NONE) return next_set(p, from);
     degrees_of(p, (uint16_t)champion, top);
-    for (uint32_t s = from; s <= p->reach; s++) {
-        if (!marked(p, s)) continue;
+    for (uint32_t s = next_set(p, from); s != NONE; s = next_set(p, s + 1)) {
         degrees_of(p, (uint16_t)s, degrees);
         if (!preferred(p, top, degrees)) return s;
     }
