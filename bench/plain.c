@@ -12,7 +12,7 @@ enum { NONE = 65536 }; /* no set: one more than the greatest */
 /* One row: its bodies as sets, its head from the most wanted atom on. */
 typedef struct {
     uint16_t positive, negative;
-    uint8_t heads, head[6];
+    uint8_t heads, head[8]; /* at most six; two more, so that a wrong count does no harm */
 } Row;
 
 /* A page that was accepted, and a flag word that fits it. */
@@ -132,8 +132,8 @@ static int open(Program *p, const uint8_t *page, size_t length, uint16_t flags) 
 
 /* ---- one set ---- */
 
-static int all_in(uint16_t list, uint16_t set) { return (list & set) == list; }
-static int none_in(uint16_t list, uint16_t set) { return (list & set) == 0; }
+static int all_in(uint16_t body, uint16_t set) { return (body & set) == body; }
+static int none_in(uint16_t body, uint16_t set) { return (body & set) == 0; }
 
 /* The place from 1 of the first head atom in the set, 0 if there is none. */
 static unsigned first_in(const Row *row, uint16_t set) {
@@ -250,7 +250,8 @@ static unsigned count_splits(const Program *p, uint16_t set, unsigned row, uint8
 /* ---- degrees and preference ---- */
 
 static void degrees_of(const Program *p, uint16_t set, uint8_t *degrees) {
-    for (unsigned r = 0; r < p->rows; r++) degrees[r] = body_holds(&p->row[r], set) ? (uint8_t)first_in(&p->row[r], set) : 1;
+    for (const Row *row = p->row; row < p->row + p->rows; row++)
+        *degrees++ = body_holds(row, set) ? (uint8_t)first_in(row, set) : 1;
 }
 
 /* M, with degrees m, is preferred to N. The first degree at which the collections differ is the least degree of a row

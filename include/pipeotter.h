@@ -3,7 +3,7 @@
 
    Link with libcapi.a (x86-64; `rt staticlib capi` writes it). It wants memcpy and memset from you, and a compiler for C99
    or C++11. The calls keep nothing between them, take no heap, and touch only what you lend. List, best, pick and display
-   need some 17 KiB of stack (docs/SPEED.md, which also tells of time). The calls may be made from several threads at once
+   need some 9 KiB of stack, the split test some 6 KiB (docs/SPEED.md, which also tells of time). The calls may be made from several threads at once
    if no lent slice is written by two.
 
    Words used here

@@ -86,7 +86,7 @@ fn sets_with(
     Listed { no: 0, count: many }
 }
 
-// The same for the sets up to top. A small page needs few words: 16 for eight atoms.
+// The same for the sets up to top. A small page needs few words of marks: 16 for eight atoms.
 fn sets_to(
     rows: &[u64],
     pairs: &[u16],

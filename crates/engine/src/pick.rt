@@ -27,7 +27,7 @@ fn best_with(rows: &[u64], pairs: &[u16], flags: u16, top: u16, marks: &mut [u16
     search::next_best(rows, flags, &marks[..], 0)
 }
 
-// The least best set up to top. A small page needs few words: 16 for eight atoms.
+// The least best set up to top. A small page needs few words of marks: 16 for eight atoms.
 fn first_best(rows: &[u64], pairs: &[u16], flags: u16, top: u16) -> u32
     ensures { λ r. ⌜ r ≡ nextFrom (soughtBest (prefers (now (rows .entry)) flags) (wordMarks (now (rows .entry)) (now (pairs .entry)) flags top (wordsTo top))) 0 ⌝ }
 {

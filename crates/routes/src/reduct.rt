@@ -65,7 +65,7 @@ pub fn least_of(rows: &[u64], flags: u16, set: u16) -> u16
     s
 }
 
-// The four tests of an answer set, in this order: no pair, page rows, raised flags, support.
+// The four tests of an answer set, in this order: no pair, rows, raised flags, support.
 pub fn is_answer(rows: &[u64], pairs: &[u16], flags: u16, set: u16) -> bool
     ensures { λ r. ⌜ r ≡ answer (programIn (now (rows .entry)) (now (pairs .entry)) flags) set ⌝ }
 {

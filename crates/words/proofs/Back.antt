@@ -173,15 +173,16 @@ module _ (page : List ℕ) (h : pageNo page ≡ 0) where
       rw pair-most
       (map-back Coded.pairWord Coded.pairIn (pairsOf page) (λ q m. pair-back q (omega (arith, pairs-below page h q m .one-below, ranges page h .atoms-most))))
 
-  -- the two programs differ in the number of atoms alone
-  same-parts : (flags : ℕ) → Coded.programIn (Coded.rowWords page) (Coded.pairWords page) flags ≡ with-atoms (rowsOf page) (pairsOf page) flags mostAtoms
+  -- the law of the bridge: the words of the page mean its rows and its pairs. So the two programs differ in the number of atoms alone
+  pub words-mean : (flags : ℕ)
+      → Coded.programIn (Coded.rowWords page) (Coded.pairWords page) flags ≡ record { atoms = mostAtoms; rows = rowsOf page; pairs = pairsOf page; flags = flags }
   unfolding Coded.programIn
-  same-parts flags = rw (rows-back, pairs-back)
+  words-mean flags = rw (rows-back, pairs-back)
 
   module _ (flags : ℕ) where
     pub same-answer : answer (Coded.programIn (Coded.rowWords page) (Coded.pairWords page) flags) ≡ answer (program page flags)
     unfolding program
-    same-answer = ap answer (same-parts flags) ∙ answer-atoms (rowsOf page) (pairsOf page) flags _ _
+    same-answer = ap answer (words-mean flags) ∙ answer-atoms (rowsOf page) (pairsOf page) flags _ _
 
     pub same-preferred : preferred (Coded.programIn (Coded.rowWords page) [] flags) ≡ preferred (program page flags)
     unfolding program Coded.programIn Coded.pairsIn
@@ -189,8 +190,8 @@ module _ (page : List ℕ) (h : pageNo page ≡ 0) where
 
     pub same-here-there : hereThere (Coded.programIn (Coded.rowWords page) (Coded.pairWords page) flags) ≡ hereThere (program page flags)
     unfolding program
-    same-here-there = ap hereThere (same-parts flags) ∙ here-there-atoms (rowsOf page) (pairsOf page) flags _ _
+    same-here-there = ap hereThere (words-mean flags) ∙ here-there-atoms (rowsOf page) (pairsOf page) flags _ _
 
     pub same-split : splitCount (Coded.programIn (Coded.rowWords page) (Coded.pairWords page) flags) ≡ splitCount (program page flags)
     unfolding program
-    same-split = ap splitCount (same-parts flags) ∙ split-atoms (rowsOf page) (pairsOf page) flags _ _
+    same-split = ap splitCount (words-mean flags) ∙ split-atoms (rowsOf page) (pairsOf page) flags _ _
