@@ -3,8 +3,9 @@
 
    Link with libcapi.a (x86-64; `rt staticlib capi` writes it). It wants memcpy and memset from you, and a compiler for C99
    or C++11. The calls keep nothing between them, take no heap, and touch only what you lend. List, best, pick and display
-   need some 9 KiB of stack, the split test some 6 KiB (docs/SPEED.md, which also tells of time). The calls may be made from several threads at once
-   if no lent slice is written by two.
+   need up to 9.2 KiB of stack, the split test 5.6 KiB, every other call less than 1 KiB. A call reads the page some three
+   times, however many sets it tries (docs/SPEED.md, which also tells of time). The calls may be made from several threads
+   at once if no lent slice is written by two.
 
    Words used here
      page    the bytes of one page, form 1: header of 18 bytes, rows, literals, pairs (docs/PAGE.md)

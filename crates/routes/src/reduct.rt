@@ -50,7 +50,7 @@ fn round(rows: &[u64], flags: u16, set: u16, s: u16) -> u16
 }
 
 // The least set closed under the reduct for `set`. It lies inside `set`, so the rounds stop there, or when nothing is added.
-// A round that adds something adds an atom, so there are at most 16 such rounds and 17 passes over the rows.
+// A round that adds something adds an atom of the set, so there are at most 16 rounds.
 pub fn least_of(rows: &[u64], flags: u16, set: u16) -> u16
     ensures { λ r. ⌜ r ≡ means.least (reduct (rulesWith (now (rows .entry)) flags) set) ⌝ }
 {

@@ -173,7 +173,8 @@ module _ (page : List ℕ) (h : pageNo page ≡ 0) where
       rw pair-most
       (map-back Coded.pairWord Coded.pairIn (pairsOf page) (λ q m. pair-back q (omega (arith, pairs-below page h q m .one-below, ranges page h .atoms-most))))
 
-  -- the law of the bridge: the words of the page mean its rows and its pairs. So the two programs differ in the number of atoms alone
+  -- the law of the bridge: the words of the page mean its rows and its pairs. So this program and
+  -- `program page flags` differ in the number of atoms alone
   pub words-mean : (flags : ℕ)
       → Coded.programIn (Coded.rowWords page) (Coded.pairWords page) flags ≡ record { atoms = mostAtoms; rows = rowsOf page; pairs = pairsOf page; flags = flags }
   unfolding Coded.programIn

@@ -1,5 +1,6 @@
 -- A row and a pair in one word each, as the tests of sets take them: what such a word means, and the words of a page. The meaning of a page is not
--- stated by these: on an accepted page the words mean its program, which is a law of proofs/.
+-- stated by these: on an accepted page the words mean its program, which is `words-mean` of
+-- proofs/Back.antt.
 use mathlib.Core.Bool.{cond}
 use mathlib.Core.List.{List, [], _∷_, _++_, map}
 use Prim.Native.Nat.{ℕ, zero, suc, _+_, _*_, _/_, _%_}
@@ -55,7 +56,8 @@ rulesWith rows flags = rulesIn rows ++ raised flags
 unfoldable pub programIn : List ℕ → List ℕ → ℕ → Program
 programIn rows pairs flags = record { atoms = mostAtoms; rows = rulesIn rows; pairs = pairsIn pairs; flags = flags }
 
--- ---- the word of a rule. A number of 16 or more is no atom; of a head that is too long the first six atoms count
+-- ---- the word of a rule. In a body a number of 16 or more is no atom; in a head it counts by its lowest four bits, and each place after the sixth
+-- reads as atom 0. An accepted page has neither
 unfoldable pub atomsOf : List ℕ → ℕ
 atomsOf l = setOf (keep (λ a. ltb a 16) l)
 
