@@ -4,7 +4,8 @@
    One set at a time. Only numbers between the flag word and the flag word with all head atoms are tested, since no
    other can be an answer set; 16 numbers that cannot be between are passed over at once. Pick and best climb to a
    champion and skip what it beats. The page is checked once for each call, and its rows are read once, each body into
-   a set. Lists run once to count and once to store, because a refused call must store nothing. */
+   a set. Lists run once to count and once to store, because a refused call must store nothing. For the same reason the
+   writer looks at all that it is lent before it stores a byte. */
 #include "plain.h"
 
 enum { NONE = 65536 }; /* no set: one more than the greatest */
@@ -448,6 +449,68 @@ uint64_t plain_display(float live, float second, float held, const uint8_t *page
     if ((bits & 0x7f800000) == 0x7f800000) return blank(refused(15));
     return (uint64_t)(chosen + PIPEOTTER_CASE_LIVE) << 32 | bits;
 }
+
+/* ---- writing a page ---- */
+
+/* What a page is to be made of. */
+typedef struct {
+    size_t atoms, rows, literals, pairs; /* how many of each */
+    const uint8_t *row, *literal, *pair;
+} Content;
+
+static int all_below(const uint8_t *list, size_t count, size_t atoms) {
+    for (size_t i = 0; i < count; i++)
+        if (list[i] >= atoms) return 0;
+    return 1;
+}
+
+/* As page_fault, for a page that does not stand anywhere yet. The conditions are put once more: an error that is planted
+   in the one check must not be found by way of the other. */
+static int content_fault(const Content *c) {
+    if (c->atoms < 1 || c->atoms > 16 || c->rows > 32 || c->literals > 704 || c->pairs > 8) return 3;
+    const uint8_t *end = c->row + 3 * c->rows, *at = c->literal;
+    size_t sum = 0;
+    for (const uint8_t *count = c->row; count < end; count += 3) {
+        if (count[0] > 6 || count[1] > 8 || count[2] > 8) return 5;
+        sum += count[0] + count[1] + count[2];
+    }
+    if (sum != c->literals) return 5;
+    if (!all_below(c->literal, c->literals, c->atoms) || !all_below(c->pair, 2 * c->pairs, c->atoms)) return 6;
+    for (const uint8_t *count = c->row; count < end; count += 3) {
+        at += count[0];
+        if (!rises(at, count[1]) || !rises(at + count[1], count[2])) return 7;
+        at += count[1] + count[2];
+    }
+    uint16_t met = 0;
+    for (const uint8_t *pair = c->pair; pair < c->pair + 2 * c->pairs; pair += 2) {
+        if (pair[0] >= pair[1] || (pair > c->pair && pair[0] <= pair[-2])) return 8;
+        if (met & (1u << pair[0] | 1u << pair[1])) return 8;
+        met = (uint16_t)(met | 1u << pair[0] | 1u << pair[1]);
+    }
+    return 0;
+}
+
+uint32_t plain_write(size_t atoms, const uint8_t *rows, size_t rows_length, const uint8_t *literals, size_t literals_length,
+                     const uint8_t *pairs, size_t pairs_length, uint8_t *buffer, size_t room) {
+    if (rows_length % 3 != 0 || pairs_length % 2 != 0) return refused(3);
+    const Content c = {atoms, rows_length / 3, literals_length, pairs_length / 2, rows, literals, pairs};
+    int fault = content_fault(&c);
+    if (fault) return refused(fault);
+    size_t literals_at = 18 + 4 * c.rows, pairs_at = literals_at + c.literals, end = pairs_at + 2 * c.pairs;
+    if (room < end) return refused(11);
+    const size_t fields[9] = {1, c.atoms, c.rows, c.literals, c.pairs, 18, literals_at, pairs_at, end};
+    uint8_t *to = buffer;
+    for (size_t i = 0; i < 9; i++) *to++ = (uint8_t)fields[i], *to++ = (uint8_t)(fields[i] >> 8);
+    for (size_t r = 0; r < c.rows; r++) {
+        for (size_t i = 0; i < 3; i++) *to++ = rows[3 * r + i];
+        *to++ = 0;
+    }
+    for (size_t i = 0; i < literals_length; i++) *to++ = literals[i];
+    for (size_t i = 0; i < pairs_length; i++) *to++ = pairs[i];
+    return (uint32_t)end;
+}
+
+/* ---- the letter ---- */
 
 uint8_t plain_letter(uint16_t number) {
     if (number >= 1 && number <= 8) return 'P';

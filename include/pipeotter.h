@@ -1,5 +1,5 @@
 /* Pipeotter for C: which sets of atoms does a page of ranked rules allow, which of them is best, and what a display shows
-   by it.
+   by it. One call more makes a page.
 
    Link with libcapi.a (x86-64; `rt staticlib capi` writes it). It wants memcpy and memset from you, and a compiler for C99
    or C++11. The calls keep nothing between them, take no heap, and touch only what you lend. List, best, pick and display
@@ -12,6 +12,7 @@
      flags   raised atoms: bit i raised means that atom i holds, as if the page had a row that says so
      set     atoms that hold: bit i is atom i. An answer set is a set that the page and the flags allow
      A, R    the page's number of atoms (1 to 16) and of rows (0 to 32)
+     L, Q    its number of literals (0 to 704) and of pairs (0 to 8)
 
    What a call returns
      65,536 times the refusal number, plus the value. PIPEOTTER_NUMBER and PIPEOTTER_VALUE take them apart.
@@ -23,16 +24,18 @@
      A refused call has the value 0 (the display: no number) and leaves all lent memory as it was, entry for entry.
 
    What the proof covers
-     For every page content, length, flag word, set, room and reading: the result and the lent memory afterwards are the
-     ones written here, no byte outside the lent memory is read or written, and the call returns.
+     For every page content, length, number of atoms, flag word, set, room and reading: the result and the lent memory
+     afterwards are the ones written here, no byte outside the lent memory is read or written, and the call returns.
 
    What lies outside the proof. These are yours to keep:
-     - a pointer must be good for the length given with it: `page` for reading `length` bytes, `sets` for `room`
-       entries of 16 bits, `degrees` for `room` bytes. A null pointer is never good, not even with length or room 0:
-       lend the address of any object instead
+     - a pointer must be good for the length given with it: `page` for reading `length` bytes, `rows`, `literals` and
+       `pairs` for reading as many bytes as their own lengths say, `sets` for `room` entries of 16 bits, `degrees` and
+       `buffer` for `room` bytes. A null pointer is never good, not even with length or room 0: lend the address of any
+       object instead
      - `sets` must be aligned as a uint16_t
      - a `float` is single precision by IEEE 754, and is passed as x86-64 compilers for Linux pass one
-     - a lent slice to write to must not overlap the page, and nobody else may write to either during the call
+     - a lent slice to write to must not overlap what the call reads, the page or the writer's rows, literals and pairs,
+       and nobody else may write to any of them during the call
      - this header: nothing but the tests compares it with the proved code */
 #ifndef PIPEOTTER_H
 #define PIPEOTTER_H
@@ -62,9 +65,11 @@ enum {
     PIPEOTTER_ACCEPTED = 0,
     PIPEOTTER_SHORT_PAGE = 1,      /* the page has fewer than 18 bytes */
     PIPEOTTER_WRONG_FORM = 2,      /* its form is not 1 */
-    PIPEOTTER_COUNT_RANGE = 3,     /* atoms, rows, literals or pairs outside their range */
+    PIPEOTTER_COUNT_RANGE = 3,     /* atoms, rows, literals or pairs outside their range; for the writer also a length that
+                                      is no whole number of rows or of pairs */
     PIPEOTTER_WRONG_LAYOUT = 4,    /* an offset or the whole length is not as the counts say, or not the lent length */
-    PIPEOTTER_BAD_ROW = 5,         /* a row's count too large, its fourth byte not 0, or the counts do not add up */
+    PIPEOTTER_BAD_ROW = 5,         /* a row's count too large, its fourth byte not 0 (the writer's rows have none), or the
+                                      counts do not add up */
     PIPEOTTER_UNKNOWN_ATOM = 6,    /* an atom number of A or more, in the literals or in the pairs */
     PIPEOTTER_UNSORTED_BODY = 7,   /* a body list that does not rise strictly */
     PIPEOTTER_BAD_PAIR = 8,        /* a pair out of order, or an atom in two pairs */
@@ -81,7 +86,8 @@ enum {
 #define PIPEOTTER_NUMBER(result) ((uint16_t)((uint32_t)(result) >> 16))
 #define PIPEOTTER_VALUE(result) ((uint16_t)((uint32_t)(result) & 0xFFFFu))
 
-/* Limits, for buffers. No page is longer, and no list either: 65,535 sets fit every list, 32 bytes all degrees. */
+/* Limits, for buffers. No page is longer, read or written, and no list either: 65,535 sets fit every list, 32 bytes all
+   degrees. */
 #define PIPEOTTER_LONGEST_PAGE 866
 #define PIPEOTTER_MOST_SETS 65535
 #define PIPEOTTER_MOST_ROWS 32
@@ -155,6 +161,20 @@ static inline float pipeotter_shown_reading(uint64_t result) {
     for (size_t i = 0; i < sizeof reading; i++) to[i] = from[i];
     return reading;
 }
+
+/* Makes a page from its content. The header and the fourth byte of each row are the writer's own.
+   atoms     A: any number may be given
+   rows      three bytes a row: how many atoms its head, its positive and its negative body have. R is rows_length / 3
+   literals  one atom a byte, row after row: the head, then the positive, then the negative body. L is literals_length
+   pairs     two atoms a pair, one a byte. Q is pairs_length / 2
+   Each of the three may be empty, but none null, not even then. They are never changed; `buffer` must not overlap them.
+   Value: the page's length, 18 + 4R + L + 2Q. The page stands in buffer[0] up to buffer[length - 1]; every later byte is
+   unchanged. No call finds a fault in this page, and it reads back as what was given. An accepted page that is read and
+   written again has the same bytes.
+   Refusals, in order: 3 (A, R, L or Q; or rows_length no multiple of 3, or pairs_length odd), 5, 6, 7, 8, 11 (room below
+   the length; PIPEOTTER_LONGEST_PAGE is always enough). A refused call stores nothing, not even a part. */
+uint32_t pipeotter_write(size_t atoms, const uint8_t *rows, size_t rows_length, const uint8_t *literals,
+                         size_t literals_length, const uint8_t *pairs, size_t pairs_length, uint8_t *buffer, size_t room);
 
 /* The letter that a panel shows for a refusal number: 'P' page fault (1 to 8), 'C' call fault (9, 11, 12),
    'F' finding (10, 13), ' ' for 0 and every other number. Never refused. */

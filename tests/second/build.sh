@@ -13,7 +13,7 @@ give_up() {
     exit 1
 }
 
-for file in solver pages cases drive; do
+for file in solver pages cases contents drive; do
     compile "$made/$file.o" "tests/second/$file.c" || give_up "tests/second/$file.c does not compile"
 done
 
@@ -21,5 +21,5 @@ done
 driver() {
     out=$1
     shift
-    link "$out" "$made/drive.o" "$made/cases.o" "$made/pages.o" "$made/solver.o" "$@"
+    link "$out" "$made/drive.o" "$made/cases.o" "$made/contents.o" "$made/pages.o" "$made/solver.o" "$@"
 }

@@ -3,6 +3,7 @@
    failed, since a broken engine may be slow too. The last line counts pages on which everything agreed, and those on
    which something did not. It is linked with the engine's archive, or with a stand-in under the same names. */
 #include "cases.h"
+#include "contents.h"
 #include "solver.h"
 
 int printf(const char *, ...);
@@ -20,7 +21,9 @@ typedef uint32_t (*List)(const uint8_t *, size_t, uint16_t, uint16_t *, size_t);
 enum { FIXED = CASES + SCREENS + HAND_MADE };
 
 static Random rng;
+static Random dice; /* the writer's: what is asked of it changes no page */
 static Solved solved;
+static Content content;
 
 /* What is being asked, for the report. */
 static struct {
@@ -32,7 +35,7 @@ static struct {
     long wrong;
 } page;
 
-static long calls, shown, shown_as[4], picks_left_out, bests_left_out, refusals[16], sets_seen;
+static long calls, shown, shown_as[4], picks_left_out, bests_left_out, refusals[16], writes[16], sets_seen;
 
 /* ---- reports ---- */
 
@@ -51,34 +54,56 @@ static int disagrees(const char *call) {
 
 /* ---- memory to lend ---- */
 
-/* The page stands against a part of memory that may not be touched, after it or before it, and guard bytes stand on
-   the other side: a byte read outside the page ends the run, a byte written is seen. */
-enum { WALL = 65536, YARD = 3 * 65536, GUARD = 64 };
-static uint8_t *yard, *before_call, long_copy[YARD];
+/* What is lent stands against a part of memory that may not be touched, after it or before it, and guard bytes stand on
+   the other side: a byte read outside it ends the run, a byte written is seen. Or it stands free, with guard bytes on
+   both sides. */
+enum { WALL = 65536, YARD = 4 * 65536, GUARD = 64 };
+enum { AT_START, AT_END, FREE };
 
-static int build_walls(void) {
+typedef struct {
+    uint8_t *ground;      /* YARD bytes between two walls */
+    uint8_t *lent;
+    uint8_t *watched;     /* what is lent, and its guard bytes */
+    size_t whole;         /* how many bytes are watched */
+    uint8_t right[YARD];  /* what they must be */
+} Yard;
+
+static Yard page_yard, row_yard, literal_yard, pair_yard, buffer_yard;
+
+static int build_walls(Yard *yard) {
     uint8_t *all = mmap(0, YARD + 3 * WALL, 0, 0x22, -1, 0); /* no access; private, from no file */
     if ((long)(size_t)all == -1) return 0;
-    yard = all + WALL + (WALL - (size_t)all % WALL) % WALL;
-    return mprotect(yard, YARD, 3) == 0; /* read and write */
+    yard->ground = all + WALL + (WALL - (size_t)all % WALL) % WALL;
+    return mprotect(yard->ground, YARD, 3) == 0; /* read and write */
+}
+
+static void lend(Yard *yard, Random *random, int stand, const uint8_t *bytes, size_t length) {
+    size_t before = stand == AT_START ? 0 : GUARD, after = stand == AT_END ? 0 : GUARD;
+    yard->lent = stand == AT_END ? yard->ground + YARD - length : yard->ground + before;
+    yard->watched = yard->lent - before;
+    yard->whole = before + length + after;
+    for (size_t i = 0; i < before; i++) yard->watched[i] = (uint8_t)random_below(random, 256);
+    for (size_t i = 0; i < after; i++) yard->lent[length + i] = (uint8_t)random_below(random, 256);
+    memcpy(yard->lent, bytes, length);
+    memcpy(yard->right, yard->watched, yard->whole);
+}
+
+/* Something watched was changed; it is put right for the next call. */
+static int meddled(Yard *yard) {
+    if (memcmp(yard->right, yard->watched, yard->whole) == 0) return 0;
+    memcpy(yard->watched, yard->right, yard->whole);
+    return 1;
 }
 
 static void lend_page(const uint8_t *bytes, size_t length) {
-    int at_end = one_in(&rng, 2);
-    page.lent = at_end ? yard + YARD - length : yard;
-    before_call = at_end ? page.lent - GUARD : yard;
-    for (int i = 0; i < GUARD; i++) (at_end ? page.lent - GUARD : page.lent + length)[i] = (uint8_t)random_below(&rng, 256);
-    memcpy(page.lent, bytes, length);
-    memcpy(long_copy, before_call, length + GUARD);
-    page.copy = long_copy + (page.lent - before_call);
+    lend(&page_yard, &rng, one_in(&rng, 2) ? AT_END : AT_START, bytes, length);
+    page.lent = page_yard.lent;
+    page.copy = page_yard.right + (page_yard.lent - page_yard.watched);
     page.length = length;
 }
 
 static void check_page_memory(const char *call) {
-    if (memcmp(long_copy, before_call, page.length + GUARD) != 0) {
-        if (disagrees(call)) printf("\n  the call changed the page, or bytes beside it\n");
-        memcpy(before_call, long_copy, page.length + GUARD);
-    }
+    if (meddled(&page_yard) && disagrees(call)) printf("\n  the call changed the page, or bytes beside it\n");
 }
 
 /* ---- comparing one call ---- */
@@ -175,6 +200,118 @@ static void ask_degrees(uint16_t set, size_t room) {
             printf(", set 0x%04x, room %lu\n  byte %ld: engine %u, second solver %u (%s)\n", set, (unsigned long)room, (long)i - GUARD,
                    memory[i], right, stored ? "a degree" : "must stay as it was");
         break;
+    }
+}
+
+/* ---- the writer ---- */
+
+static void show_part(const char *name, const Part *part) {
+    printf("\n  %s, %lu bytes:", name, (unsigned long)part->length);
+    for (size_t i = 0; i < part->length && i < 900; i++) printf(" %02x", part->byte[i]);
+}
+
+static int write_disagrees(size_t room) {
+    if (!disagrees("write")) return 0;
+    printf(", A %lu, room %lu", (unsigned long)content.atoms, (unsigned long)room);
+    show_part("rows", &content.rows);
+    show_part("literals", &content.literals);
+    show_part("pairs", &content.pairs);
+    printf("\n");
+    return 1;
+}
+
+static void lend_part(Yard *yard, const Part *part) {
+    lend(yard, &dice, (int)random_below(&dice, 3), part->byte, part->length);
+}
+
+/* Lends the content, and answers how much room it wants; where it is refused, as much as the longest page. */
+static size_t lend_content(void) {
+    uint8_t written[PIPEOTTER_LONGEST_PAGE];
+    Answer want = second_write(&content, sizeof written, written);
+    lend_part(&row_yard, &content.rows);
+    lend_part(&literal_yard, &content.literals);
+    lend_part(&pair_yard, &content.pairs);
+    return want.number ? sizeof written : want.value;
+}
+
+/* The buffer against what must be in it: the page where there is one, and otherwise what was there. */
+static void compare_buffer(size_t room, const uint8_t *written, size_t length) {
+    Yard *yard = &buffer_yard;
+    long start = yard->lent - yard->watched, at = 0;
+    memcpy(yard->right + start, written, length);
+    if (memcmp(yard->right, yard->watched, yard->whole) == 0 || !write_disagrees(room)) return;
+    while (yard->right[at] == yard->watched[at]) at++;
+    printf("  byte %ld of the buffer: engine 0x%02x, second solver 0x%02x (%s)\n", at - start, yard->watched[at], yard->right[at],
+           at >= start && at < start + (long)length ? "a byte of the page" : "must stay as it was");
+}
+
+/* The lent content into a buffer with this room. What was written must be a page to the other calls too. */
+static void ask_write(size_t room) {
+    static uint8_t written[PIPEOTTER_LONGEST_PAGE], before[YARD];
+    uint32_t salt = random_below(&dice, 0xFFFFFFFF);
+    Answer want = second_write(&content, room, written);
+    for (size_t i = 0; i < room; i++) before[i] = (uint8_t)filling(i, salt);
+    lend_part(&buffer_yard, &(Part){before, room});
+    uint32_t got = pipeotter_write(content.atoms, row_yard.lent, content.rows.length, literal_yard.lent, content.literals.length,
+                                   pair_yard.lent, content.pairs.length, buffer_yard.lent, room);
+    calls++;
+    refusals[want.number]++;
+    writes[want.number]++;
+    if (got != want.number * 65536 + want.value && write_disagrees(room))
+        printf("  engine: number %u value %u; second solver: number %u value %u\n", PIPEOTTER_NUMBER(got), PIPEOTTER_VALUE(got),
+               want.number, want.value);
+    compare_buffer(room, written, want.value);
+    if (meddled(&row_yard) + meddled(&literal_yard) + meddled(&pair_yard) > 0 && write_disagrees(room))
+        printf("  the call changed the rows, the literals or the pairs, or bytes beside them\n");
+    if (want.number) return;
+    calls++;
+    refusals[0]++;
+    got = pipeotter_reduct_test(buffer_yard.lent, want.value, 0, 0);
+    if (PIPEOTTER_NUMBER(got) && write_disagrees(room)) printf("  the page that was written is refused by %u\n", PIPEOTTER_NUMBER(got));
+}
+
+static void ask_rooms(void) {
+    size_t enough = lend_content();
+    ask_write(enough);
+    ask_write(enough - 1);
+    ask_write(0);
+    ask_write(enough + 1 + random_below(&dice, 40));
+    if (page.number > FIXED && !one_in(&dice, 32)) return;
+    ask_write(65536); /* in 16 bits these two are too short */
+    ask_write(65535 + enough);
+}
+
+/* A damaged content, with room enough, and with too little: 11 comes after all that is wrong with the content itself. */
+static void ask_damaged(void) {
+    size_t enough = lend_content();
+    ask_write(enough + random_below(&dice, 2));
+    ask_write(one_in(&dice, 2) ? enough - 1 : 0);
+}
+
+static int is_long(void) { return content.rows.length + content.literals.length + content.pairs.length > 4096; }
+
+/* The page's own content must give back the page. A refused page has a content too, if its length fits its counts. */
+static void ask_writes(void) {
+    uint8_t written[PIPEOTTER_LONGEST_PAGE];
+    int kinds = content_damages(), all = page.number <= FIXED;
+    if (!content_of_page(&content, page.copy, page.length)) return;
+    if (solved.page_fault) {
+        ask_damaged();
+        return;
+    }
+    Answer again = second_write(&content, sizeof written, written);
+    if ((again.number || again.value != page.length || memcmp(written, page.copy, page.length) != 0) && write_disagrees(sizeof written))
+        printf("  the second solver does not give back the page\n");
+    ask_rooms();
+    for (int i = 0; i < (all ? kinds : 12); i++) {
+        content_of_page(&content, page.copy, page.length);
+        damage_content(&content, &dice, all ? i : (int)random_below(&dice, (uint32_t)kinds));
+        if (all || !is_long() || one_in(&dice, 8)) ask_damaged();
+    }
+    for (int i = 0; i < 6; i++) { /* several at once */
+        content_of_page(&content, page.copy, page.length);
+        for (int n = 2 + (int)random_below(&dice, 3); n > 0; n--) damage_content(&content, &dice, (int)random_below(&dice, (uint32_t)kinds));
+        if (!is_long() || one_in(&dice, 8)) ask_damaged();
     }
 }
 
@@ -356,6 +493,7 @@ static void try_page(const uint8_t *bytes, size_t length) {
     } else {
         ask_all((uint16_t)random_below(&rng, 65536));
     }
+    ask_writes();
 }
 
 /* A page with known results: the second solver against what is known, before the engine is held to the second solver. */
@@ -375,6 +513,7 @@ static void try_case(const Case *c) {
     }
     right &= solved.sets ? *text == '/' && strtoul(text + 1, 0, 10) == second_pick(&solved).value : *text == 0;
     if (!right && disagrees("none")) printf("\n  the second solver does not find the sets and the pick that are known: %s\n", c->sets);
+    ask_writes();
 }
 
 /* A page made for the display, whose number and value are known: all kinds of the three readings, one with another. Of the
@@ -397,6 +536,7 @@ static void try_screen(const Case *c) {
         uint32_t readings[3] = {kinds[i % KINDS], kinds[i / KINDS % KINDS], kinds[i / KINDS / KINDS]};
         ask_display(readings);
     }
+    ask_writes();
 }
 
 /* Lent 65,536 bytes more than the page has: 16 bits of its length are right, and it must be refused all the same. */
@@ -419,11 +559,14 @@ int main(int words, char **word) {
     unsigned long seed = words > 1 ? strtoul(word[1], 0, 0) : 1, count = words > 2 ? strtoul(word[2], 0, 0) : 20000;
     long passed = 0, failed = 0, stop = words > 3 ? (long)strtoul(word[3], 0, 0) : 20;
     Page made;
-    if (!build_walls()) {
-        printf("no memory\n0 passed, 1 failed\n");
-        return 2;
-    }
+    Yard *yards[] = {&page_yard, &row_yard, &literal_yard, &pair_yard, &buffer_yard};
+    for (int i = 0; i < 5; i++)
+        if (!build_walls(yards[i])) {
+            printf("no memory\n0 passed, 1 failed\n");
+            return 2;
+        }
     rng.state = seed;
+    dice.state = ~(unsigned long long)seed;
     *(letters_differ() ? &failed : &passed) += 1;
     for (unsigned long i = 0; i < FIXED + count && failed < stop; i++) {
         if (i < CASES) try_case(&cases[i]);
@@ -444,6 +587,9 @@ int main(int words, char **word) {
            seed, CASES, SCREENS, HAND_MADE, count, calls, sets_seen);
     printf("answers by number:");
     for (int n = 0; n < 16; n++) printf(" %d:%ld", n, refusals[n]);
+    printf("\nof these the writer:");
+    for (int n = 0; n < 16; n++)
+        if (writes[n]) printf(" %d:%ld", n, writes[n]);
     printf("\ndisplays: no number %ld, live %ld, second %ld, held %ld", shown_as[0], shown_as[1], shown_as[2], shown_as[3]);
     printf("\nnot asked, being too dear: best %ld times, pick %ld times\n%ld passed, %ld failed\n", bests_left_out, picks_left_out, passed, failed);
     fflush(0);

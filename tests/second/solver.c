@@ -1,6 +1,7 @@
 /* The second solver, written from the page format and the two papers by other roads than the engine's.
 
    Page     parsed into a sheet of numbers first; then a table of faults, in order, is asked for the first that holds.
+   Writing  what is lent makes the same kind of sheet; the same table is asked; then the sheet is printed.
    Sets     road 1: every split program is built, and for each set its Gelfond-Lifschitz reduct and least model
             (001, section 2.2; a headless row is its own one option, as 01 corrects it);
             road 2: here-and-there by its definition, every pair H inside T (001, Definition 1 and operator 13);
@@ -23,6 +24,7 @@ enum { FORM, ATOMS, ROWS, LITERALS, PAIRS, ROWS_AT, LITERALS_AT, PAIRS_AT, WHOLE
 
 typedef struct {
     size_t length;
+    size_t left_over; /* lent bytes that make no whole row or pair; a page has none */
     long field[FIELDS]; /* all -1 where the header is cut off */
     int rows, literals, pairs; /* how many were there to read, within the greatest counts */
     int row[32][4];
@@ -35,6 +37,7 @@ static int byte(const uint8_t *page, size_t length, size_t at) { return at < len
 
 static void parse(Sheet *sheet, const uint8_t *page, size_t length) {
     sheet->length = length;
+    sheet->left_over = 0;
     sheet->rows = sheet->literals = sheet->pairs = 0;
     for (int f = 0; f < FIELDS; f++) sheet->field[f] = length < 18 ? -1 : page[2 * f] | page[2 * f + 1] << 8;
     if (length < 18) return;
@@ -57,6 +60,8 @@ static int cut_off(const Sheet *sheet) { return sheet->length < 18; }
 
 static int other_form(const Sheet *sheet) { return sheet->field[FORM] != 1; }
 
+static int in_pieces(const Sheet *sheet) { return sheet->left_over != 0; }
+
 static int out_of_range(const Sheet *sheet) {
     static const long least[] = {0, 1, 0, 0, 0}, most[] = {0, 16, 32, 704, 8};
     for (int f = ATOMS; f <= PAIRS; f++)
@@ -64,12 +69,13 @@ static int out_of_range(const Sheet *sheet) {
     return 0;
 }
 
+static const int bytes_each[] = {4, 1, 2}; /* of a row, a literal, a pair */
+
 static int other_layout(const Sheet *sheet) {
     long place = 18;
-    static const int size[] = {4, 1, 2};
     for (int part = 0; part < 3; part++) { /* each part starts where the one before it ends */
         if (sheet->field[ROWS_AT + part] != place) return 1;
-        place += size[part] * sheet->field[ROWS + part];
+        place += bytes_each[part] * sheet->field[ROWS + part];
     }
     return sheet->field[WHOLE] != place || sheet->length != (size_t)place;
 }
@@ -122,14 +128,51 @@ static const struct {
     int number;
     int (*holds)(const Sheet *);
 } faults[] = {
-    {1, cut_off},  {2, other_form},   {3, out_of_range},  {4, other_layout},
-    {5, bad_row},  {6, unknown_atom}, {7, unsorted_body}, {8, bad_pair},
+    {1, cut_off}, {2, other_form},   {3, in_pieces},     {3, out_of_range}, {4, other_layout},
+    {5, bad_row}, {6, unknown_atom}, {7, unsorted_body}, {8, bad_pair},
 };
 
 static int first_fault(const Sheet *sheet) {
     for (unsigned i = 0; i < sizeof faults / sizeof faults[0]; i++)
         if (faults[i].holds(sheet)) return faults[i].number;
     return 0;
+}
+
+/* ---- the sheet the other way: from what the writer is given, and out as bytes ---- */
+
+static int at_most(int limit, size_t count) { return count < (size_t)limit ? (int)count : limit; }
+
+/* Form and layout come out right here, so of the faults only 3 and 5 to 8 can hold. */
+static void take_down(Sheet *sheet, const Content *content) {
+    const Part *rows = &content->rows, *literals = &content->literals, *pairs = &content->pairs;
+    size_t count[] = {rows->length / 3, literals->length, pairs->length / 2};
+    sheet->left_over = rows->length % 3 + pairs->length % 2;
+    sheet->field[FORM] = 1;
+    sheet->field[ATOMS] = (long)content->atoms; /* what a long cannot hold comes out below 0: not in range either */
+    sheet->length = 18;
+    for (int part = 0; part < 3; part++) {
+        sheet->field[ROWS + part] = (long)count[part];
+        sheet->field[ROWS_AT + part] = (long)sheet->length;
+        sheet->length += (size_t)bytes_each[part] * count[part];
+    }
+    sheet->field[WHOLE] = (long)sheet->length;
+    sheet->rows = at_most(32, count[0]);
+    sheet->literals = at_most(704, count[1]);
+    sheet->pairs = at_most(8, count[2]);
+    for (int r = 0; r < sheet->rows; r++)
+        for (int i = 0; i < 4; i++) sheet->row[r][i] = i < 3 ? rows->byte[3 * r + i] : 0;
+    for (int i = 0; i < sheet->literals; i++) sheet->literal[i] = literals->byte[i];
+    for (int i = 0; i < 2 * sheet->pairs; i++) sheet->pair[i / 2][i % 2] = pairs->byte[i];
+}
+
+/* The page of a sheet without fault, number after number; its length is what came out. */
+static unsigned print(const Sheet *sheet, uint8_t *page) {
+    unsigned at = 0;
+    for (int i = 0; i < 2 * FIELDS; i++) page[at++] = (uint8_t)(sheet->field[i / 2] >> 8 * (i % 2));
+    for (int i = 0; i < 4 * sheet->rows; i++) page[at++] = (uint8_t)sheet->row[i / 4][i % 4];
+    for (int i = 0; i < sheet->literals; i++) page[at++] = (uint8_t)sheet->literal[i];
+    for (int i = 0; i < 2 * sheet->pairs; i++) page[at++] = (uint8_t)sheet->pair[i / 2][i % 2];
+    return at;
 }
 
 /* ---- the program ---- */
@@ -444,9 +487,9 @@ void second_solve(Solved *s, const uint8_t *page, size_t length, uint16_t flags)
 
 enum { MOST = 16 };
 
-/* The first number of the list (ended by 0) whose condition holds; 0 where none does. */
-static unsigned first_refusal(const Solved *s, const int *order, const int *holds) {
-    if (s->page_fault) return (unsigned)s->page_fault;
+/* The page's fault, or the first number of the list (ended by 0) whose condition holds; 0 where none does. */
+static unsigned first_refusal(int page_fault, const int *order, const int *holds) {
+    if (page_fault) return (unsigned)page_fault;
     for (; *order; order++)
         if (holds[*order]) return (unsigned)*order;
     return 0;
@@ -462,20 +505,20 @@ static int knows(const Solved *s, uint16_t set) {
 Answer second_pick(const Solved *s) {
     static const int order[] = {9, 10, 0};
     int holds[MOST] = {[9] = s->flags_fault, [10] = s->sets == 0};
-    unsigned number = first_refusal(s, order, holds);
+    unsigned number = first_refusal(s->page_fault, order, holds);
     return answer(number, number ? 0 : s->best[0]);
 }
 
 Answer second_test(const Solved *s, uint16_t set) {
     static const int order[] = {9, 0};
     int holds[MOST] = {[9] = strays(s, set)};
-    return answer(first_refusal(s, order, holds), (unsigned)knows(s, set));
+    return answer(first_refusal(s->page_fault, order, holds), (unsigned)knows(s, set));
 }
 
 Answer second_split(const Solved *s, uint16_t set) {
     static const int order[] = {9, 12, 0};
     int holds[MOST] = {[9] = strays(s, set), [12] = s->split_number > 4096};
-    unsigned number = first_refusal(s, order, holds);
+    unsigned number = first_refusal(s->page_fault, order, holds);
     if (number) return answer(number, 0);
     return answer(0, s->counted ? s->split_count[set] : (unsigned)count_choices(s, set));
 }
@@ -483,7 +526,7 @@ Answer second_split(const Solved *s, uint16_t set) {
 static Answer listed(const Solved *s, int count, size_t room) {
     static const int order[] = {9, 11, 0};
     int holds[MOST] = {[9] = s->flags_fault, [11] = room < (size_t)count};
-    return answer(first_refusal(s, order, holds), (unsigned)count);
+    return answer(first_refusal(s->page_fault, order, holds), (unsigned)count);
 }
 Answer second_list(const Solved *s, size_t room) { return listed(s, s->sets, room); }
 Answer second_best(const Solved *s, size_t room) { return listed(s, s->bests, room); }
@@ -491,7 +534,7 @@ Answer second_best(const Solved *s, size_t room) { return listed(s, s->bests, ro
 Answer second_degrees(const Solved *s, uint16_t set, size_t room, uint8_t *degrees) {
     static const int order[] = {9, 11, 13, 0};
     int holds[MOST] = {[9] = strays(s, set), [11] = room < (size_t)s->page_rows, [13] = !knows(s, set)};
-    unsigned number = first_refusal(s, order, holds);
+    unsigned number = first_refusal(s->page_fault, order, holds);
     if (number) return answer(number, 0);
     for (int r = 0; r < s->page_rows; r++) degrees[r] = (uint8_t)degree(&s->rule[r], set);
     return answer(0, (unsigned)s->page_rows);
@@ -500,7 +543,7 @@ Answer second_degrees(const Solved *s, uint16_t set, size_t room, uint8_t *degre
 Answer second_compare(const Solved *s, uint16_t first, uint16_t second) {
     static const int order[] = {9, 13, 0};
     int holds[MOST] = {[9] = strays(s, first) || strays(s, second), [13] = !knows(s, first) || !knows(s, second)};
-    unsigned number = first_refusal(s, order, holds);
+    unsigned number = first_refusal(s->page_fault, order, holds);
     if (number) return answer(number, 0);
     Collections one = collect(s, first), other = collect(s, second);
     return answer(0, is_preferred(&one, &other) ? 1 : is_preferred(&other, &one) ? 2 : 0);
@@ -518,9 +561,18 @@ Screen second_display(const Solved *s, const uint32_t *readings) {
                        [10] = s->sets == 0,
                        [14] = s->atoms < 4 || outcomes != 1,
                        [15] = has_reading && (readings[chosen] >> 23 & 255) == 255};
-    Screen screen = {answer(first_refusal(s, order, holds), has_reading ? (unsigned)chosen + 1 : 0), 0x7fc00000};
+    Screen screen = {answer(first_refusal(s->page_fault, order, holds), has_reading ? (unsigned)chosen + 1 : 0), 0x7fc00000};
     if (screen.answer.value) screen.bits = readings[chosen];
     return screen;
+}
+
+Answer second_write(const Content *content, size_t room, uint8_t *page) {
+    static const int order[] = {11, 0};
+    static Sheet sheet;
+    take_down(&sheet, content);
+    int holds[MOST] = {[11] = room < sheet.length};
+    unsigned number = first_refusal(first_fault(&sheet), order, holds);
+    return answer(number, number ? 0 : print(&sheet, page));
 }
 
 int second_prefers(const Solved *s, int m, int n) { return is_preferred(&s->ranked[m], &s->ranked[n]); }

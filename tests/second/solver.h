@@ -14,6 +14,17 @@ typedef struct {
     uint32_t bits;
 } Screen;
 
+/* What the writer is given: a number of atoms, and three runs of bytes, of any lengths. */
+typedef struct {
+    uint8_t *byte;
+    size_t length;
+} Part;
+
+typedef struct {
+    size_t atoms;
+    Part rows, literals, pairs;
+} Content;
+
 /* A rule of a program. Bodies and heads as lists of atoms, and the bodies as words too. */
 typedef struct {
     int heads, head[6];
@@ -58,5 +69,6 @@ Answer second_degrees(const Solved *s, uint16_t set, size_t room, uint8_t *degre
 Answer second_compare(const Solved *s, uint16_t first, uint16_t second);
 int second_prefers(const Solved *s, int m, int n); /* set[m] is preferred to set[n] */
 Screen second_display(const Solved *s, const uint32_t *readings); /* the bits of live, second and held */
+Answer second_write(const Content *content, size_t room, uint8_t *page); /* `page`: 866 bytes; filled where accepted */
 uint8_t second_letter(uint16_t number);
 #endif

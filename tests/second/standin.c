@@ -26,4 +26,8 @@ uint32_t pipeotter_compare(const uint8_t *page, size_t length, uint16_t flags, u
 uint64_t pipeotter_display(float live, float second, float held, const uint8_t *page, size_t length, uint16_t flags) {
     return plain_display(live, second, held, page, length, flags);
 }
+uint32_t pipeotter_write(size_t atoms, const uint8_t *rows, size_t rows_length, const uint8_t *literals, size_t literals_length,
+                         const uint8_t *pairs, size_t pairs_length, uint8_t *buffer, size_t room) {
+    return plain_write(atoms, rows, rows_length, literals, literals_length, pairs, pairs_length, buffer, room);
+}
 uint8_t pipeotter_letter(uint16_t number) { return plain_letter(number); }

@@ -5,7 +5,8 @@ use Prim.Native.Nat.{ℕ}
 use lib.Ieee.{Float}
 use Rattle.page.specs.Letter.{letterOf}
 use Rattle.engine.proofs.Determined.{one-answer}
-use Rattle.capi.specs.Words.{pickWord, reductWord, hereThereWord, splitWord, compareWord, SetsGiven, DegreesGiven, displayWord}
+use Rattle.writer.specs.Content.{Content}
+use Rattle.capi.specs.Words.{pickWord, reductWord, hereThereWord, splitWord, compareWord, SetsGiven, DegreesGiven, PageGiven, displayWord}
 
 pub pipeotter-pick : (page : List ℕ) (flags x y : ℕ) → x ≡ pickWord page flags → y ≡ pickWord page flags → x ≡ y
 pipeotter-pick page flags x y = one-answer
@@ -28,7 +29,7 @@ pipeotter-letter number x y = one-answer
 pub pipeotter-display : (live second held : Float) (page : List ℕ) (flags x y : ℕ) → x ≡ displayWord live second held page flags → y ≡ displayWord live second held page flags → x ≡ y
 pipeotter-display live second held page flags x y = one-answer
 
--- the lists of sets, all or best; the degrees
+-- the lists of sets, all or best; the degrees; the page that is made
 pub pipeotter-sets : (sets page : List ℕ) (flags : ℕ) (out : List ℕ) (x y : ℕ) (after later : List ℕ) → SetsGiven sets page flags out x after → SetsGiven sets page flags out y later
     → (x ≡ y) × (after ≡ later)
 pipeotter-sets sets page flags out x y after later p q = (one-answer (p .0) (q .0), one-answer (p .1) (q .1))
@@ -36,3 +37,6 @@ pipeotter-sets sets page flags out x y after later p q = (one-answer (p .0) (q .
 pub pipeotter-degrees : (page : List ℕ) (flags set : ℕ) (out : List ℕ) (x y : ℕ) (after later : List ℕ) → DegreesGiven page flags set out x after → DegreesGiven page flags set out y later
     → (x ≡ y) × (after ≡ later)
 pipeotter-degrees page flags set out x y after later p q = (one-answer (p .0) (q .0), one-answer (p .1) (q .1))
+
+pub pipeotter-write : (c : Content) (out : List ℕ) (x y : ℕ) (after later : List ℕ) → PageGiven c out x after → PageGiven c out y later → (x ≡ y) × (after ≡ later)
+pipeotter-write c out x y after later p q = (one-answer (p .0) (q .0), one-answer (p .1) (q .1))

@@ -21,6 +21,8 @@ use Rattle.display.specs.Shows.{readingOf, readingOr, shownBy, displayNo, displ
 use Rattle.display.specs.declared.Readings.{Readings}
 use Rattle.display.specs.declared.Shown.{Shown}
 use Rattle.display.specs.declared.Shown.the-variants.{Live, Second, Held, NoNumber}
+use Rattle.writer.specs.Content.{Content, encode}
+use Rattle.writer.specs.Writes.{writeNo, written}
 
 unfoldable pub word : ℕ → ℕ → ℕ
 word n value = 65536 * n + value
@@ -64,6 +66,13 @@ degreesWord page flags set out = let r = graded (degreesNo page flags set (lengt
 
 abbrev pub DegreesGiven : List ℕ → ℕ → ℕ → List ℕ → ℕ → List ℕ → Type 0
 DegreesGiven page flags set out r after = (r ≡ degreesWord page flags set out) × (after ≡ degreesAfter page flags set out)
+
+-- a page that is made: the word, and the lent slice afterwards
+unfoldable pub writeWord : Content → List ℕ → ℕ
+writeWord c out = let r = written (writeNo c (length out)) c in word (r .no) (r .length)
+
+abbrev pub PageGiven : Content → List ℕ → ℕ → List ℕ → Type 0
+PageGiven c out r after = (r ≡ writeWord c out) × (after ≡ stored (writeNo c (length out)) (encode c) out)
 
 -- the display: the case that is shown; and, with it, the bits of its reading, those of a NaN where there is none
 unfoldable pub caseValue : Shown → ℕ

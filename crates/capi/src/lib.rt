@@ -6,6 +6,7 @@ ghost use Rattle.lpod.specs.Answer.{answerSets};
 ghost use Rattle.lpod.specs.Best.{bestSets};
 ghost use Rattle.page.specs.Program.{program};
 ghost use Rattle.page.specs.Letter.{letterOf};
+ghost use Rattle.writer.specs.Content.{content};
 ghost use Rattle.capi.specs.Words as means;
 
 // The number and the value as one word.
@@ -86,6 +87,21 @@ pub extern "C" fn pipeotter_degrees(page: &[u8], flags: u16, set: u16, degrees: 
 {
     let r = engine::degrees::degrees(page, flags, set, &mut *degrees);
     word(r.no, r.count)
+}
+
+// A page made from its parts, in the lent buffer; the value is its length.
+#[no_mangle]
+pub extern "C" fn pipeotter_write(
+    atoms: usize,
+    rows: &[u8],
+    literals: &[u8],
+    pairs: &[u8],
+    buffer: &mut [u8],
+) -> u32
+    ensures { λ r. ⌜ means.PageGiven (content atoms (now (rows .entry)) (now (literals .entry)) (now (pairs .entry))) (now (buffer .entry)) r (now (buffer .exit)) ⌝ }
+{
+    let r = writer::write(atoms, rows, literals, pairs, &mut *buffer);
+    word(r.no, r.length)
 }
 
 // What C gets for a comparison: 1 the first is preferred, 2 the second, 0 neither.

@@ -118,6 +118,10 @@ spare-byte page r x y = one-answer
 pub literals-of : (page : List ℕ) (r : ℕ) (x y : ℕ) → x ≡ fields.literalsOf page r → y ≡ fields.literalsOf page r → x ≡ y
 literals-of page r x y = one-answer
 
+-- page::ranges
+pub counts-out : (atoms rows literals pairs : ℕ) (x y : Bool) → x ≡ refusals.countsOut atoms rows literals pairs → y ≡ refusals.countsOut atoms rows literals pairs → x ≡ y
+counts-out atoms rows literals pairs x y = one-answer
+
 -- page::accept
 pub page-no : (page : List ℕ) (x y : ℕ) → x ≡ refusals.pageNo page → y ≡ refusals.pageNo page → x ≡ y
 page-no page x y = one-answer

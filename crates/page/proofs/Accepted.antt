@@ -17,12 +17,24 @@ use Rattle.page.specs.Refusals
 use Rattle.page.proofs.Refusals.{page-numbered, AllDenied, given-denied}
 use Rattle.page.proofs.Places.{place-up}
 
-pub record Ranges (page : List ℕ) : Type 0 where
-  pub atoms-least : 1 ≤ fields.atomCount page
-  pub atoms-most : fields.atomCount page ≤ 16
-  pub rows-most : fields.rowCount page ≤ 32
-  pub literals-most : fields.literalCount page ≤ 704
-  pub pairs-most : fields.pairCount page ≤ 8
+-- four numbers, each in its range; those of a page
+pub record InRanges (atoms rows literals pairs : ℕ) : Type 0 where
+  pub atoms-least : 1 ≤ atoms
+  pub atoms-most : atoms ≤ 16
+  pub rows-most : rows ≤ 32
+  pub literals-most : literals ≤ 704
+  pub pairs-most : pairs ≤ 8
+
+abbrev pub Ranges : List ℕ → Type 0
+Ranges page = InRanges (fields.atomCount page) (fields.rowCount page) (fields.literalCount page) (fields.pairCount page)
+
+-- the offsets and the whole length are as they must be
+pub record Placed (page : List ℕ) : Type 0 where
+  pub rows-offset : fields.rowsOffset page ≡ fields.rowsAt page
+  pub literals-offset : fields.literalsOffset page ≡ fields.literalsAt page
+  pub pairs-offset : fields.pairsOffset page ≡ fields.pairsAt page
+  pub end-is : fields.wholeLength page ≡ fields.endOf page
+  pub length-is : fields.wholeLength page ≡ length page
 
 pub record SmallCounts (page : List ℕ) (r : ℕ) : Type 0 where
   pub head-most : fields.headCount page r ≤ 6
@@ -42,6 +54,25 @@ in-range low high n e =
     let p = both-parts (leb low n) (leb n high) e in
     (leb-true low n (p .0), leb-true n high (p .1))
 
+pub counts-in : (atoms rows literals pairs : ℕ) → Refusals.countsOut atoms rows literals pairs ≡ false → InRanges atoms rows literals pairs
+unfolding Refusals.countsOut
+counts-in atoms rows literals pairs h =
+    let a = Refusals.inRange 1 16 atoms in
+    let r = Refusals.inRange 0 32 rows in
+    let l = Refusals.inRange 0 704 literals in
+    let q = Refusals.inRange 0 8 pairs in
+    let p = both-parts a (r && (l && q)) (not-false (a && (r && (l && q))) h) in
+    let p′ = both-parts r (l && q) (p .1) in
+    let p″ = both-parts l q (p′ .1) in
+    let m = in-range 1 16 atoms (p .0) in
+    record {
+      atoms-least = m .0;
+      atoms-most = m .1;
+      rows-most = in-range 0 32 rows (p′ .0) .1;
+      literals-most = in-range 0 704 literals (p″ .0) .1;
+      pairs-most = in-range 0 8 pairs (p″ .1) .1;
+    }
+
 -- ---- an accepted page
 module _ (page : List ℕ) (h : Refusals.pageNo page ≡ 0) where
   denials : AllDenied (Refusals.pageRefusals page)
@@ -58,34 +89,30 @@ module _ (page : List ℕ) (h : Refusals.pageNo page ≡ 0) where
 
   pub ranges : Ranges page
   unfolding Refusals.pageRefusals Refusals.outOfRange
-  ranges =
-      let a = Refusals.inRange 1 16 (fields.atomCount page) in
-      let r = Refusals.inRange 0 32 (fields.rowCount page) in
-      let l = Refusals.inRange 0 704 (fields.literalCount page) in
-      let q = Refusals.inRange 0 8 (fields.pairCount page) in
-      let p = both-parts a (r && (l && q)) (not-false (a && (r && (l && q))) (denials .1 .1 .0)) in
-      let p′ = both-parts r (l && q) (p .1) in
-      let p″ = both-parts l q (p′ .1) in
-      let atoms = in-range 1 16 _ (p .0) in
-      record {
-        atoms-least = atoms .0;
-        atoms-most = atoms .1;
-        rows-most = in-range 0 32 _ (p′ .0) .1;
-        literals-most = in-range 0 704 _ (p″ .0) .1;
-        pairs-most = in-range 0 8 _ (p″ .1) .1;
-      }
+  ranges = counts-in _ _ _ _ (denials .1 .1 .0)
 
-  pub whole-length : length page ≡ fields.endOf page
+  pub placed : Placed page
   unfolding Refusals.pageRefusals Refusals.misplaced
-  whole-length =
+  placed =
       let r = eqb (fields.rowsOffset page) (fields.rowsAt page) in
       let l = eqb (fields.literalsOffset page) (fields.literalsAt page) in
       let q = eqb (fields.pairsOffset page) (fields.pairsAt page) in
       let e = eqb (fields.wholeLength page) (fields.endOf page) in
       let n = eqb (fields.wholeLength page) (length page) in
       let p = both-parts r (l && (q && (e && n))) (not-false (r && (l && (q && (e && n)))) (denials .1 .1 .1 .0)) in
-      let p′ = both-parts e n (both-parts q (e && n) (both-parts l (q && (e && n)) (p .1) .1) .1) in
-      sym (eqb-true (fields.wholeLength page) (length page) (p′ .1)) ∙ eqb-true (fields.wholeLength page) (fields.endOf page) (p′ .0)
+      let p′ = both-parts l (q && (e && n)) (p .1) in
+      let p″ = both-parts q (e && n) (p′ .1) in
+      let p‴ = both-parts e n (p″ .1) in
+      record {
+        rows-offset = eqb-true (fields.rowsOffset page) (fields.rowsAt page) (p .0);
+        literals-offset = eqb-true (fields.literalsOffset page) (fields.literalsAt page) (p′ .0);
+        pairs-offset = eqb-true (fields.pairsOffset page) (fields.pairsAt page) (p″ .0);
+        end-is = eqb-true (fields.wholeLength page) (fields.endOf page) (p‴ .0);
+        length-is = eqb-true (fields.wholeLength page) (length page) (p‴ .1);
+      }
+
+  pub whole-length : length page ≡ fields.endOf page
+  whole-length = sym (placed .length-is) ∙ placed .end-is
 
   rows-fit : (every (Refusals.rowFits page) (below (fields.rowCount page)) ≡ true) × (literalPlace page (fields.rowCount page) ≡ fields.pairsAt page)
   unfolding Refusals.pageRefusals Refusals.badCounts

@@ -48,10 +48,11 @@ otherForm page = not (eqb (fields.formOf page) 1)
 unfoldable pub inRange : ℕ → ℕ → ℕ → Bool
 inRange low high n = leb low n && leb n high
 
+unfoldable pub countsOut : ℕ → ℕ → ℕ → ℕ → Bool
+countsOut atoms rows literals pairs = not (inRange 1 16 atoms && (inRange 0 32 rows && (inRange 0 704 literals && inRange 0 8 pairs)))
+
 unfoldable pub outOfRange : List ℕ → Bool
-outOfRange page =
-    not (inRange 1 16 (fields.atomCount page)
-    && (inRange 0 32 (fields.rowCount page) && (inRange 0 704 (fields.literalCount page) && inRange 0 8 (fields.pairCount page))))
+outOfRange page = countsOut (fields.atomCount page) (fields.rowCount page) (fields.literalCount page) (fields.pairCount page)
 
 -- 4: an offset or the whole length is not as it must be, or is not the lent length
 unfoldable pub misplaced : List ℕ → Bool
@@ -121,17 +122,12 @@ unfoldable pub setOut : List ℕ → ℕ → Bool
 setOut page set = bitsFrom (fields.atomCount page) set
 
 -- ---- the lists, in the order in which they are given
+-- of rows, literals and pairs, which reading and writing share; of a whole page
+abbrev pub partRefusals : List ℕ → List Refusal
+partRefusals page = refuse 5 (badCounts page) ∷ refuse 6 (atomsOut page) ∷ refuse 7 (unsorted page) ∷ refuse 8 (badPairs page) ∷ []
+
 unfoldable pub pageRefusals : List ℕ → List Refusal
-pageRefusals page =
-    refuse 1 (short page)
-    ∷ refuse 2 (otherForm page)
-    ∷ refuse 3 (outOfRange page)
-    ∷ refuse 4 (misplaced page)
-    ∷ refuse 5 (badCounts page)
-    ∷ refuse 6 (atomsOut page)
-    ∷ refuse 7 (unsorted page)
-    ∷ refuse 8 (badPairs page)
-    ∷ []
+pageRefusals page = refuse 1 (short page) ∷ refuse 2 (otherForm page) ∷ refuse 3 (outOfRange page) ∷ refuse 4 (misplaced page) ∷ partRefusals page
 
 unfoldable pub flagRefusals : List ℕ → ℕ → List Refusal
 flagRefusals page flags = pageRefusals page ++ (refuse 9 (flagsOut page flags) ∷ [])

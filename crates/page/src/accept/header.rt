@@ -2,6 +2,7 @@
 ghost use mathlib.Core.Path.{_≡_};
 ghost use Rattle.page.specs.Refusals as refusals;
 use crate::fields;
+use crate::ranges;
 
 // 1: shorter than the header.
 pub fn too_short(page: &[u8]) -> bool
@@ -17,22 +18,15 @@ pub fn other_form(page: &[u8]) -> bool
     fields::form_of(page) != 1
 }
 
-// The number n lies from low to high.
-fn in_range(n: u16, low: u16, high: u16) -> bool
-    ensures { λ r. ⌜ r ≡ refusals.inRange low high n ⌝ }
-{
-    (low <= n) & (n <= high)
-}
-
 // 3: atoms, rows, literals or pairs outside their range.
 pub fn out_of_range(page: &[u8]) -> bool
     ensures { λ r. ⌜ r ≡ refusals.outOfRange (now (page .entry)) ⌝ }
 {
-    let atoms = in_range(fields::atom_count(page), 1, 16);
-    let rows = in_range(fields::row_count(page), 0, 32);
-    let literals = in_range(fields::literal_count(page), 0, 704);
-    let pairs = in_range(fields::pair_count(page), 0, 8);
-    !(atoms & (rows & (literals & pairs)))
+    let atoms = fields::atom_count(page) as usize;
+    let rows = fields::row_count(page) as usize;
+    let literals = fields::literal_count(page) as usize;
+    let pairs = fields::pair_count(page) as usize;
+    ranges::counts_out(atoms, rows, literals, pairs)
 }
 
 // 4: an offset or the whole length is not as it must be, or is not the lent length.

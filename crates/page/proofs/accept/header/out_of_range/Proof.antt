@@ -1,32 +1,35 @@
--- `out_of_range` tests the four counts, each against its range, as `outOfRange` does. Assumes nothing.
-use Rattle.page.specs.Refusals.{outOfRange}
+-- `out_of_range` tests the four counts of the header, as `outOfRange` does. Assumes nothing.
 use borrow.Author.Needs.{needs}
+use Rattle.page.specs.Refusals.{outOfRange}
 use Rattle.page.proofs.accept.header.out_of_range.Statement.{statement}
 use Rattle.page.proofs.accept.header.out_of_range.Tie as tie
 
 atom-count-requires : tie.Need-atom-count-requires
 atom-count-requires c κs = search needs
 
-in-range-requires : tie.Need-in-range-requires
-in-range-requires c κs = search needs
+cast-atoms : tie.Need-cast-atoms
+cast-atoms c = search needs
 
 row-count-requires : tie.Need-row-count-requires
 row-count-requires c κs = search needs
 
-in-range-requires-2 : tie.Need-in-range-requires-2
-in-range-requires-2 c κs = search needs
+cast-rows : tie.Need-cast-rows
+cast-rows c = search needs
 
 literal-count-requires : tie.Need-literal-count-requires
 literal-count-requires c κs = search needs
 
-in-range-requires-3 : tie.Need-in-range-requires-3
-in-range-requires-3 c κs = search needs
+cast-literals : tie.Need-cast-literals
+cast-literals c = search needs
 
 pair-count-requires : tie.Need-pair-count-requires
 pair-count-requires c κs = search needs
 
-in-range-requires-4 : tie.Need-in-range-requires-4
-in-range-requires-4 c κs = search needs
+cast-pairs : tie.Need-cast-pairs
+cast-pairs c = search needs
+
+counts-out-requires : tie.Need-counts-out-requires
+counts-out-requires c κs = search needs
 
 returns : tie.Need-returns
 unfolding outOfRange
@@ -37,11 +40,12 @@ out-of-range-spec =
     tie.close
     (tie.spec
     atom-count-requires
-    in-range-requires
+    cast-atoms
     row-count-requires
-    in-range-requires-2
+    cast-rows
     literal-count-requires
-    in-range-requires-3
+    cast-literals
     pair-count-requires
-    in-range-requires-4
+    cast-pairs
+    counts-out-requires
     returns)

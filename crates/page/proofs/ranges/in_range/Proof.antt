@@ -1,7 +1,7 @@
 -- `in_range` compares a number with both bounds, as `inRange` does. Assumes nothing.
 use Rattle.page.specs.Refusals.{inRange}
-use Rattle.page.proofs.accept.header.in_range.Statement.{statement}
-use Rattle.page.proofs.accept.header.in_range.Tie as tie
+use Rattle.page.proofs.ranges.in_range.Statement.{statement}
+use Rattle.page.proofs.ranges.in_range.Tie as tie
 
 returns : tie.Need-returns
 unfolding inRange

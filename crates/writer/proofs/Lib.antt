@@ -1,0 +1,6 @@
+pub mod Bytes
+pub mod Runs
+pub mod Encoding
+pub mod Ways
+pub mod Promises
+pub mod Determined

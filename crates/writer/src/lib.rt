@@ -1,0 +1,138 @@
+// Writes pages: from a number of atoms, rows of three counts, literals and pairs to the bytes of the page, in lent memory. Nothing is stored before
+// the whole content is accepted and there is room: the page is first made in memory of this call, and read as any page is.
+ghost use mathlib.Core.Path.{_≡_};
+ghost use Prim.Native.Nat.{_+_, _*_, _/_, _≤_, _<_};
+ghost use lib.ListN.{length, getD};
+ghost use Rattle.engine.specs.Entries.{over};
+ghost use Rattle.page.specs.Fields.{byteAt};
+ghost use Rattle.writer.specs.Content.{content, headerFields, twoBytes, fourBytes, encode};
+ghost use Rattle.writer.specs.Writes as means;
+use page::accept;
+use page::fields;
+use page::ranges;
+
+// The refusal number, and how many bytes the page has.
+pub struct Written {
+    pub no: u16,
+    pub length: u16,
+}
+
+// Byte i of the header of a page with so many atoms, rows, literals and pairs.
+fn header_byte(atoms: usize, rows: usize, literals: usize, pairs: usize, i: usize) -> u8
+    requires { ⌜ (atoms ≤ 16) × (rows ≤ 32) × (literals ≤ 704) × (pairs ≤ 8) × (i < 18) ⌝ }
+    ensures { λ r. ⌜ r ≡ byteAt (twoBytes (headerFields atoms rows literals pairs)) i ⌝ }
+{
+    let literals_at = 18 + 4 * rows;
+    let pairs_at = literals_at + literals;
+    let end = pairs_at + 2 * pairs;
+    let numbers = [
+        1,
+        atoms,
+        rows,
+        literals,
+        pairs,
+        18,
+        literals_at,
+        pairs_at,
+        end,
+    ];
+    let n = numbers[i / 2];
+    if i % 2 == 0 {
+        return (n % 256) as u8;
+    }
+    (n / 256) as u8
+}
+
+// Byte i of the rows: after the three counts of a row comes a zero.
+fn row_byte(rows: &[u8], i: usize) -> u8
+    requires { ⌜ (length (now rows) ≤ 98) × (i < 4 * (length (now rows) / 3)) ⌝ }
+    ensures { λ r. ⌜ r ≡ byteAt (fourBytes (now (rows .entry))) i ⌝ }
+{
+    let k = i % 4;
+    if k < 3 {
+        return fields::byte_at(rows, 3 * (i / 4) + k);
+    }
+    0
+}
+
+// Byte i of the page.
+fn page_byte(atoms: usize, rows: &[u8], literals: &[u8], pairs: &[u8], i: usize) -> u8
+    requires { ⌜ means.Sized (content atoms (now rows) (now literals) (now pairs)) ⌝ }
+    ensures { λ r. ⌜ r ≡ byteAt (encode (content atoms (now (rows .entry)) (now (literals .entry)) (now (pairs .entry)))) i ⌝ }
+{
+    let row_total = rows.len() / 3;
+    if i < 18 {
+        return header_byte(atoms, row_total, literals.len(), pairs.len() / 2, i);
+    }
+    let literals_at = 18 + 4 * row_total;
+    if i < literals_at {
+        return row_byte(rows, i - 18);
+    }
+    let pairs_at = literals_at + literals.len();
+    if i < pairs_at {
+        return fields::byte_at(literals, i - literals_at);
+    }
+    fields::byte_at(pairs, i - pairs_at)
+}
+
+// How long the page is.
+fn page_length(atoms: usize, rows: &[u8], literals: &[u8], pairs: &[u8]) -> usize
+    requires { ⌜ means.Sized (content atoms (now rows) (now literals) (now pairs)) ⌝ }
+    ensures { λ r. ⌜ (r ≡ length (encode (content atoms (now (rows .entry)) (now (literals .entry)) (now (pairs .entry))))) × (r ≤ 866) ⌝ }
+{
+    18 + 4 * (rows.len() / 3) + literals.len() + pairs.len()
+}
+
+// Stores the page at the start of a slice that has room for it.
+fn fill(atoms: usize, rows: &[u8], literals: &[u8], pairs: &[u8], out: &mut [u8])
+    requires { ⌜ means.Sized (content atoms (now rows) (now literals) (now pairs)) × (length (encode (content atoms (now rows) (now literals) (now pairs))) ≤ length (now out)) ⌝ }
+    ensures { λ r. ⌜ now (out .exit) ≡ over (encode (content atoms (now (rows .entry)) (now (literals .entry)) (now (pairs .entry)))) (now (out .entry)) ⌝ }
+{
+    let end = page_length(atoms, rows, literals, pairs);
+    let mut i = 0;
+    while i < end {
+        out[i] = page_byte(atoms, rows, literals, pairs, i);
+        i += 1;
+    }
+}
+
+// 3: lengths that are no whole number of rows or of pairs, or numbers outside their range.
+fn sizes_out(atoms: usize, rows: &[u8], literals: &[u8], pairs: &[u8]) -> bool
+    ensures { λ r. ⌜ r ≡ means.sizesOut (content atoms (now (rows .entry)) (now (literals .entry)) (now (pairs .entry))) ⌝ }
+{
+    let whole = (rows.len() % 3 == 0) & (pairs.len() % 2 == 0);
+    let out = ranges::counts_out(atoms, rows.len() / 3, literals.len(), pairs.len() / 2);
+    !whole | out
+}
+
+// The number that the content is refused with: 3, or what its page is refused with.
+fn content_no(atoms: usize, rows: &[u8], literals: &[u8], pairs: &[u8]) -> u16
+    ensures { λ r. ⌜ r ≡ means.contentNo (content atoms (now (rows .entry)) (now (literals .entry)) (now (pairs .entry))) ⌝ }
+{
+    if sizes_out(atoms, rows, literals, pairs) {
+        return 3;
+    }
+    let end = page_length(atoms, rows, literals, pairs);
+    let mut page = [0u8; 866];
+    fill(atoms, rows, literals, pairs, &mut page[..end]);
+    accept::page_no(&page[..end])
+}
+
+// Makes the page at the start of the lent slice; later bytes keep their content. Refusals 3, 5, 6, 7, 8, then 11 for a slice that is too short.
+pub fn write(atoms: usize, rows: &[u8], literals: &[u8], pairs: &[u8], buffer: &mut [u8]) -> Written
+    ensures { λ r. ⌜ means.WriteSays (content atoms (now (rows .entry)) (now (literals .entry)) (now (pairs .entry))) (now (buffer .entry)) r (now (buffer .exit)) ⌝ }
+{
+    let no = content_no(atoms, rows, literals, pairs);
+    if no != 0 {
+        return Written { no, length: 0 };
+    }
+    let end = page_length(atoms, rows, literals, pairs);
+    if buffer.len() < end {
+        return Written { no: 11, length: 0 };
+    }
+    fill(atoms, rows, literals, pairs, &mut *buffer);
+    Written {
+        no: 0,
+        length: end as u16,
+    }
+}
