@@ -23,15 +23,20 @@ typedef struct {
     uint32_t (*best)(const uint8_t *, size_t, uint16_t, uint16_t *, size_t);
     uint32_t (*pick)(const uint8_t *, size_t, uint16_t);
     uint64_t (*display)(float, float, float, const uint8_t *, size_t, uint16_t);
+    uint32_t (*write)(size_t, const uint8_t *, size_t, const uint8_t *, size_t, const uint8_t *, size_t, uint8_t *, size_t);
 } Solver;
-static const Solver solver[2] = {{pipeotter_reduct_test, pipeotter_list, pipeotter_best, pipeotter_pick, pipeotter_display},
-                                 {plain_reduct_test, plain_list, plain_best, plain_pick, plain_display}};
+static const Solver solver[2] = {
+    {pipeotter_reduct_test, pipeotter_list, pipeotter_best, pipeotter_pick, pipeotter_display, pipeotter_write},
+    {plain_reduct_test, plain_list, plain_best, plain_pick, plain_display, plain_write}};
 
 static uint8_t page[2000];
 static size_t length;
 static uint16_t flags, sets[2][65536];
 
-enum { LIST, TEST, BEST, PICK, DISPLAY, CALLS }; /* in this order: the tests take their sets from the list */
+/* What the writer is given: the page's own content. The counts of its rows stand apart, three a row. */
+static uint8_t counts[3 * PIPEOTTER_MOST_ROWS], written[2][PIPEOTTER_LONGEST_PAGE];
+
+enum { LIST, TEST, BEST, PICK, DISPLAY, WRITE, CALLS }; /* in this order: the tests take their sets from the list */
 
 /* Tests 64 sets: answer sets spread over the list, which is asked first, and others. */
 static uint32_t listed;
@@ -44,6 +49,13 @@ static uint32_t tests(const Solver *s) {
     return sum;
 }
 
+static size_t field(int at) { return page[at] + 256u * page[at + 1]; }
+
+static uint32_t write_again(int which) {
+    const uint8_t *literals = page + field(12), *pairs = page + field(14);
+    return solver[which].write(field(2), counts, 3 * field(4), literals, field(6), pairs, 2 * field(8), written[which], sizeof written[which]);
+}
+
 static uint64_t call(int which, int what) {
     const Solver *s = &solver[which];
     switch (what) {
@@ -51,6 +63,7 @@ static uint64_t call(int which, int what) {
     case LIST: return s->list(page, length, flags, sets[which], 65536);
     case BEST: return s->best(page, length, flags, sets[which], 65536);
     case PICK: return s->pick(page, length, flags);
+    case WRITE: return write_again(which);
     default: return s->display(0.08f, 0.11f, 0.25f, page, length, flags);
     }
 }
@@ -70,7 +83,7 @@ static double timed(int which, int what, long times) {
     return (now() - start) / (double)times;
 }
 
-/* The first turn compares the answers, a list's entries too. Then turns that are long enough for the clock, the more
+/* The first turn compares the answers, a list's entries and the page that is written too. Then turns that are long enough for the clock, the more
    the cheaper they are; a call of a second or more has no further turn. Answers 0 where the answers differ. */
 static int measure(int what, double *least) {
     double start = now(), middle;
@@ -85,6 +98,7 @@ static int measure(int what, double *least) {
         if (memcmp(sets[0], sets[1], count * sizeof sets[0][0])) return 0;
         if (what == LIST) listed = (uint32_t)count;
     }
+    if (what == WRITE && (PIPEOTTER_VALUE(answer) != length || memcmp(written[0], page, length) || memcmp(written[1], page, length))) return 0;
     double both = least[0] + least[1];
     long times = both < 0.002 ? (long)(0.002 / both) + 1 : 1;
     int turns = both * (double)times < 0.05 ? 20 : both < 1 ? 6 : 0;
@@ -101,12 +115,13 @@ static int load(const char *path) {
     long got = file < 0 ? -1 : read(file, page, sizeof page);
     if (file >= 0) close(file);
     length = got < 0 ? 0 : (size_t)got;
+    for (size_t i = 0; i < sizeof counts; i++) counts[i] = page[18 + i / 3 * 4 + i % 3];
     return got >= 0;
 }
 
 int main(int words, char **word) {
     int differ = 0;
-    printf("| page | sets | test | list | best | pick | display | pick / list, engine | pick / list, plain C |\n|---|---|---|---|---|---|---|---|---|\n");
+    printf("| page | sets | test | list | best | pick | display | write | pick / list, engine | pick / list, plain C |\n|---|---|---|---|---|---|---|---|---|---|\n");
     for (int i = 1; i + 2 < words; i += 3) {
         double least[CALLS][2];
         flags = (uint16_t)strtoul(word[i + 2], 0, 0);
@@ -122,7 +137,7 @@ int main(int words, char **word) {
             differ = 1;
             continue;
         }
-        static const int column[CALLS] = {TEST, LIST, BEST, PICK, DISPLAY};
+        static const int column[CALLS] = {TEST, LIST, BEST, PICK, DISPLAY, WRITE};
         printf("| %s | %u |", word[i], listed);
         for (int c = 0; c < CALLS; c++) printf(" %.2f |", least[column[c]][0] / least[column[c]][1]);
         printf(" %.2f | %.2f |\n", least[PICK][0] / least[LIST][0], least[PICK][1] / least[LIST][1]);
