@@ -13,7 +13,8 @@ use Rattle.page.specs.Fields.{rowCount}
 use Rattle.page.specs.Program.{program}
 use Rattle.routes.specs.Tests.{reductTest, hereThereTest}
 use Rattle.routes.specs.Split.{splitTest}
-use Rattle.engine.specs.Calls.{picked, pickNo, listed, listNo, stored}
+use Rattle.engine.specs.Entries.{stored}
+use Rattle.engine.specs.Calls.{picked, pickNo, listed, listNo}
 use Rattle.engine.specs.Degrees.{graded, degreesNo, degreesAfter}
 use Rattle.engine.specs.Compare.{compared, compareNo}
 use Rattle.display.specs.Readings.{bitsOf}

@@ -33,7 +33,8 @@ use Rattle.routes.specs.Tests.{verdict, reductTest, hereThereTest, ReductSays, 
 use Rattle.routes.specs.Split.{splitRefusals, splitNo, splitTest}
 use Rattle.routes.specs.declared.Verdict.{Verdict}
 use Rattle.routes.proofs.SplitCounts.{split-says, split-gives, split-refused}
-use Rattle.engine.specs.Calls.{listRefusals, listNo, listed, stored, SetsSay, ListSays, BestSays, isEmpty, pickRefusals, pickNo, setOr, picked, PickSays}
+use Rattle.engine.specs.Entries.{stored}
+use Rattle.engine.specs.Calls.{listRefusals, listNo, listed, SetsSay, ListSays, BestSays, isEmpty, pickRefusals, pickNo, setOr, picked, PickSays}
 use Rattle.engine.specs.Degrees.{degreesRefusals, degreesNo, graded, degreesAfter, DegreesSays}
 use Rattle.engine.specs.Compare.{compareRefusals, compareNo, compared, CompareSays}
 use Rattle.engine.specs.declared.list.Listed.{Listed}

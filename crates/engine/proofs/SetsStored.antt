@@ -11,8 +11,8 @@ use lib.Seq.{drop-cons, set-append-seam, append-snoc}
 use borrow.Author.Tests.{ne-eqb, lt-ltb, le-ltb}
 use Rattle.page.specs.Refusals.{refuse, firstThat, flagRefusals, flagNo}
 use Rattle.page.proofs.Refusals.{flag-numbered}
-use Rattle.engine.specs.Entries.{over}
-use Rattle.engine.specs.Calls.{listRefusals, listNo, listed, stored, SetsSay}
+use Rattle.engine.specs.Entries.{over, stored}
+use Rattle.engine.specs.Calls.{listRefusals, listNo, listed, SetsSay}
 use Rattle.engine.specs.declared.list.Listed.{Listed}
 use Rattle.engine.specs.Lists.{RoomSays}
 use Rattle.engine.proofs.Refused.{refused-later}

@@ -11,7 +11,7 @@ use Rattle.lpod.specs.Answer.{answerSets}
 use Rattle.lpod.specs.Best.{bestSets, pick}
 use Rattle.page.specs.Program.{program}
 use Rattle.page.specs.Refusals.{Refusal, refuse, firstThat, flagRefusals}
-use Rattle.engine.specs.Entries.{over}
+use Rattle.engine.specs.Entries.{stored}
 use Rattle.engine.specs.declared.list.Listed.{Listed}
 use Rattle.engine.specs.declared.list.Which.{Which}
 use Rattle.engine.specs.declared.list.Which.the-variants.{All, Best}
@@ -25,12 +25,9 @@ listRefusals page flags sets out = flagRefusals page flags ++ (refuse 11 (ltb (l
 unfoldable pub listNo : List ℕ → ℕ → List ℕ → List ℕ → ℕ
 listNo page flags sets out = firstThat (listRefusals page flags sets out)
 
--- with number n: how many sets there are and the sets at the start of the lent slice; where n refuses, count 0 and the slice as it was
+-- with number n: how many sets there are; where n refuses, 0
 unfoldable pub listed : ℕ → List ℕ → Listed
 listed n sets = record { no = n; count = cond (eqb n 0) (length sets) 0 }
-
-unfoldable pub stored : ℕ → List ℕ → List ℕ → List ℕ
-stored n sets out = cond (eqb n 0) (over sets out) out
 
 -- the answer r of a call that lists `sets`, and the lent slice afterwards
 abbrev pub SetsSay : List ℕ → List ℕ → ℕ → List ℕ → Listed → List ℕ → Type 0

@@ -8,7 +8,8 @@ use lib.ListN.{length}
 use Rattle.page.specs.Refusals.{refuse, firstThat}
 use Rattle.engine.specs.Marks.{marked}
 use Rattle.engine.specs.Search.{soughtBest}
-use Rattle.engine.specs.Calls.{listed, stored}
+use Rattle.engine.specs.Entries.{stored}
+use Rattle.engine.specs.Calls.{listed}
 use Rattle.engine.specs.declared.list.Listed.{Listed}
 use Rattle.engine.specs.declared.list.Which.{Which}
 use Rattle.engine.specs.declared.list.Which.the-variants.{All, Best}

@@ -13,9 +13,9 @@ fn in_range(n: usize, low: usize, high: usize) -> bool
 pub fn counts_out(atoms: usize, rows: usize, literals: usize, pairs: usize) -> bool
     ensures { λ r. ⌜ r ≡ refusals.countsOut atoms rows literals pairs ⌝ }
 {
-    let first = in_range(atoms, 1, 16);
-    let second = in_range(rows, 0, 32);
-    let third = in_range(literals, 0, 704);
-    let fourth = in_range(pairs, 0, 8);
-    !(first & (second & (third & fourth)))
+    let atoms_fit = in_range(atoms, 1, 16);
+    let rows_fit = in_range(rows, 0, 32);
+    let literals_fit = in_range(literals, 0, 704);
+    let pairs_fit = in_range(pairs, 0, 8);
+    !(atoms_fit & (rows_fit & (literals_fit & pairs_fit)))
 }

@@ -1,18 +1,22 @@
 -- The bytes of a page that is made, by their places, as code stores them: two for each number of the header, four for each row, and the lists as they
 -- are. By induction on the lists. Assumes nothing.
-use mathlib.Core.Path.{_≡_, refl, ap, _∙_}
+use mathlib.Core.Path.{_≡_, refl, sym, ap, _∙_}
 use mathlib.Core.List.{List, [], _∷_, _++_}
 use Prim.Native.Nat.{ℕ, zero, suc, _+_, _*_, _-_, _/_, _%_, _≤_, _<_}
+use native.Mathlib.Nat.{add-zero, add-suc, suc-add}
 use native.Mathlib.Numerals.{add-one}
 use native.Mathlib.Omega.{arith}
 use lib.Dec.{T, leb}
-use lib.ListN.{length, drop, length-append, List·getD-append}
-use lib.Seq.{drop-cons, getD-append-add}
+use lib.ListN.{length, drop, set, length-append, length-set, drop-of-length-le}
+use lib.Seq.{sets, length-sets, drop-cons}
 use borrow.Author.Tests.{leb-true, le-leb}
 use Rattle.atoms.proofs.Truth.{yes-true, true-yes, and-l, and-r}
 use Rattle.lpod.specs.Lists.{every}
 use Rattle.page.specs.Fields.{byteAt}
-use Rattle.writer.specs.Content.{Content, rowTotal, headerFields, twoBytes, fourBytes, header, encode}
+use Rattle.page.proofs.Accepted.{InRanges}
+use Rattle.engine.specs.Entries.{over}
+use Rattle.engine.proofs.Stored.{over-sets}
+use Rattle.writer.specs.Content.{Content, rowTotal, headerFields, twoBytes, fourBytes, header, body, encode}
 
 -- ---- two bytes for a number
 pub low-byte : (l : List ℕ) (i : ℕ) → i % 2 ≡ 0 → byteAt (twoBytes l) i ≡ byteAt l (i / 2) % 256
@@ -40,18 +44,18 @@ most [] m i t = omega arith
 most (n ∷ l) m zero t = leb-true n m (yes-true (leb n m) (and-l (leb n m) (every (λ n. leb n m) l) t))
 most (n ∷ l) m (suc i) t = most l m i (and-r (leb n m) (every (λ n. leb n m) l) t)
 
-pub fields-most : (atoms rows literals pairs i : ℕ) → atoms ≤ 16 → rows ≤ 32 → literals ≤ 704 → pairs ≤ 8 → byteAt (headerFields atoms rows literals pairs) i ≤ 866
+pub fields-most : (atoms rows literals pairs i : ℕ) → InRanges atoms rows literals pairs → byteAt (headerFields atoms rows literals pairs) i ≤ 866
 unfolding headerFields every
-fields-most atoms rows literals pairs i a r l q =
+fields-most atoms rows literals pairs i n =
     most (headerFields atoms rows literals pairs) 866 i
     (true-yes {a = every (λ n. leb n 866) (headerFields atoms rows literals pairs)} (rw (
-      le-leb atoms 866 (omega arith),
-      le-leb rows 866 (omega arith),
-      le-leb literals 866 (omega arith),
-      le-leb pairs 866 (omega arith),
-      le-leb (18 + 4 * rows) 866 (omega arith),
-      le-leb (18 + 4 * rows + literals) 866 (omega arith),
-      le-leb (18 + 4 * rows + literals + 2 * pairs) 866 (omega arith),
+      le-leb atoms 866 (omega (arith, n .atoms-most)),
+      le-leb rows 866 (omega (arith, n .rows-most)),
+      le-leb literals 866 (omega (arith, n .literals-most)),
+      le-leb pairs 866 (omega (arith, n .pairs-most)),
+      le-leb (18 + 4 * rows) 866 (omega (arith, n .rows-most)),
+      le-leb (18 + 4 * rows + literals) 866 (omega (arith, n .rows-most, n .literals-most)),
+      le-leb (18 + 4 * rows + literals + 2 * pairs) 866 (omega (arith, n .rows-most, n .literals-most, n .pairs-most)),
     )))
 
 -- ---- four bytes for a row
@@ -81,9 +85,13 @@ zero-byte (a ∷ b ∷ c ∷ l) (suc (suc (suc zero))) k = refl
 zero-byte (a ∷ b ∷ c ∷ l) (suc (suc (suc (suc i)))) k = zero-byte l i (omega arith)
 
 -- ---- how long the parts are
+pub length-fields : (atoms rows literals pairs : ℕ) → length (twoBytes (headerFields atoms rows literals pairs)) ≡ 18
+unfolding headerFields twoBytes
+length-fields atoms rows literals pairs = refl
+
 pub length-header : (c : Content) → length (header c) ≡ 18
-unfolding header headerFields twoBytes
-length-header c = refl
+unfolding header
+length-header c = length-fields _ _ _ _
 
 pub length-rows : (l : List ℕ) → length (fourBytes l) ≡ 4 * (length l / 3)
 unfolding fourBytes
@@ -97,45 +105,49 @@ unfolding encode
 length-page c =
     omega (
       arith,
-      length-append (header c) (fourBytes (c .rows) ++ (c .literals ++ c .pairs)),
+      length-append (header c) (body c),
       length-append (fourBytes (c .rows)) (c .literals ++ c .pairs),
       length-append (c .literals) (c .pairs),
       length-header c,
       length-rows (c .rows),
     )
 
--- ---- the part in which a byte stands
-past : (a b : List ℕ) (i n : ℕ) → length a ≡ n → n ≤ i → byteAt (a ++ b) i ≡ byteAt b (i - n)
-past a b i n e h =
-    let k : i ≡ length a + (i - n) = omega arith in
-    ap (byteAt (a ++ b)) k ∙ getD-append-add a b (i - n) 0
+-- ---- bytes stored one after the other, from place `at` on: so many are there, the rest is to come
+pub record Stored (all : List ℕ) (at : ℕ) (out₀ out : List ℕ) (i : ℕ) : Type 0 where
+  pub same : length out ≡ length out₀
+  pub rest : sets out₀ at all ≡ sets out (at + i) (drop i all)
 
-module _ (c : Content) (i : ℕ) where
-  pub in-header : i < 18 → byteAt (encode c) i ≡ byteAt (header c) i
-  unfolding encode
-  in-header h = List·getD-append (header c) (fourBytes (c .rows) ++ (c .literals ++ c .pairs)) 0 i (omega (arith, length-header c))
+pub stored-none : (all out : List ℕ) (at : ℕ) → Stored all at out out 0
+stored-none all out at = record { same = refl; rest = rw add-zero }
 
-  after-header : 18 ≤ i → byteAt (encode c) i ≡ byteAt (fourBytes (c .rows) ++ (c .literals ++ c .pairs)) (i - 18)
-  unfolding encode
-  after-header h = past (header c) (fourBytes (c .rows) ++ (c .literals ++ c .pairs)) i 18 (length-header c) h
+module _ {all out₀ out : List ℕ} {at i : ℕ} (s : Stored all at out₀ out i) where
+  pub stored-more : (b : ℕ) → i < length all → b ≡ byteAt all i → (out′ : List ℕ) → out′ ≡ set out (at + i) b → Stored all at out₀ out′ (i + 1)
+  stored-more b l e out′ eo = record {
+    same = ap length eo ∙ length-set out (at + i) b ∙ s .same;
+    rest = s .rest ∙ rw (drop-cons all i 0 l, ← e, eo, add-one, add-suc);
+  }
 
-  pub in-rows : 18 ≤ i → i < 18 + 4 * rowTotal c → byteAt (encode c) i ≡ byteAt (fourBytes (c .rows)) (i - 18)
-  in-rows l h = after-header l ∙ List·getD-append (fourBytes (c .rows)) (c .literals ++ c .pairs) 0 (i - 18) (omega (arith, length-rows (c .rows)))
+  pub stored-all : length all ≤ i → out ≡ sets out₀ at all
+  stored-all l = sym (s .rest ∙ ap (sets out (at + i)) (drop-of-length-le all {i = i} l))
 
-  after-rows : 18 + 4 * rowTotal c ≤ i → byteAt (encode c) i ≡ byteAt (c .literals ++ c .pairs) (i - (18 + 4 * rowTotal c))
-  after-rows l =
-      let k : i - 18 - 4 * rowTotal c ≡ i - (18 + 4 * rowTotal c) = omega arith in
-      after-header (omega arith) ∙ past (fourBytes (c .rows)) (c .literals ++ c .pairs) (i - 18) (4 * rowTotal c) (length-rows (c .rows)) (omega arith)
-      ∙ ap (byteAt (c .literals ++ c .pairs)) k
+-- one part after the other
+pub sets-append : (out : List ℕ) (at : ℕ) (a b : List ℕ) → sets out at (a ++ b) ≡ sets (sets out at a) (at + length a) b
+sets-append out at [] b = rw add-zero
+sets-append out at (x ∷ a) b = sets-append (set out at x) (suc at) a b ∙ rw (suc-add, add-suc)
 
-  pub in-literals : 18 + 4 * rowTotal c ≤ i → i < 18 + 4 * rowTotal c + length (c .literals) → byteAt (encode c) i ≡ byteAt (c .literals) (i - (18 + 4 * rowTotal c))
-  in-literals l h = after-rows l ∙ List·getD-append (c .literals) (c .pairs) 0 (i - (18 + 4 * rowTotal c)) (omega arith)
+pub sets-keep : (at : ℕ) (vs after out : List ℕ) → after ≡ sets out at vs → length after ≡ length out
+sets-keep at vs after out e = ap length e ∙ length-sets out at vs
 
-  pub in-pairs : 18 + 4 * rowTotal c + length (c .literals) ≤ i → byteAt (encode c) i ≡ byteAt (c .pairs) (i - (18 + 4 * rowTotal c + length (c .literals)))
-  in-pairs l =
-      let k : i - (18 + 4 * rowTotal c) - length (c .literals) ≡ i - (18 + 4 * rowTotal c + length (c .literals)) = omega arith in
-      after-rows (omega arith) ∙ past (c .literals) (c .pairs) (i - (18 + 4 * rowTotal c)) (length (c .literals)) refl (omega arith) ∙ ap (byteAt (c .pairs)) k
-
--- the bytes from i on: byte i, and those after it
-pub bytes-next : (all : List ℕ) (i b : ℕ) → i < length all → b ≡ byteAt all i → drop i all ≡ b ∷ drop (i + 1) all
-bytes-next all i b l e = drop-cons all i 0 l ∙ rw (e, add-one)
+-- the four parts are the page
+pub parts-page : (c : Content) (out a b d e : List ℕ) → length (encode c) ≤ length out → a ≡ sets out 0 (header c) → b ≡ sets a 18 (fourBytes (c .rows))
+    → d ≡ sets b (18 + 4 * rowTotal c) (c .literals) → e ≡ sets d (18 + 4 * rowTotal c + length (c .literals)) (c .pairs) → e ≡ over (encode c) out
+unfolding encode
+parts-page c out a b d e room ea eb ed ee =
+    let tail = c .literals ++ c .pairs in
+    let one : sets out 0 (header c ++ (fourBytes (c .rows) ++ tail)) ≡ sets a 18 (fourBytes (c .rows) ++ tail)
+    = sets-append out 0 (header c) (fourBytes (c .rows) ++ tail) ∙ rw (length-header c, ← ea) in
+    let two : sets a 18 (fourBytes (c .rows) ++ tail) ≡ sets b (18 + 4 * rowTotal c) tail
+    = sets-append a 18 (fourBytes (c .rows)) tail ∙ rw (length-rows (c .rows), ← eb) in
+    let three : sets b (18 + 4 * rowTotal c) tail ≡ sets d (18 + 4 * rowTotal c + length (c .literals)) (c .pairs)
+    = sets-append b (18 + 4 * rowTotal c) (c .literals) (c .pairs) ∙ rw (← ed) in
+    ee ∙ sym (one ∙ two ∙ three) ∙ over-sets (encode c) out room

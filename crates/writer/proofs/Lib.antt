@@ -1,5 +1,6 @@
 pub mod Bytes
 pub mod Runs
+pub mod Header
 pub mod Encoding
 pub mod Ways
 pub mod Promises

@@ -1,32 +1,30 @@
--- The ways out of the writer: refused by the content, refused for want of room, and the page made. And what its own copy of the page is, before any
--- byte is lent. Assumes nothing.
+-- The ways out of the writer: refused by the content, refused for want of room, and the page made. And the page that it makes in its own memory is the
+-- first part of that array. Assumes nothing.
 use mathlib.Core.Path.{_≡_, sym, ap, _∙_}
-use mathlib.Core.List.{List, [], _∷_, _++_, append-nil}
+use mathlib.Core.List.{List, _++_, append-nil}
 use Prim.Native.Nat.{ℕ, _≤_, _<_}
 use native.Mathlib.Omega.{arith}
-use lib.Dec.{ltb}
 use lib.ListN.{length, take, length-append, drop-of-length-le}
 use lib.Seq.{take-at}
 use borrow.Author.Tests.{ne-eqb, lt-ltb, le-ltb}
-use Rattle.page.specs.Refusals.{refuse, firstThat}
-use Rattle.engine.specs.Entries.{over}
-use Rattle.engine.specs.Calls.{stored}
+use Rattle.page.specs.Refusals.{firstThat}
+use Rattle.engine.specs.Entries.{over, stored}
 use Rattle.engine.proofs.Refused.{refused-first, refused-later}
 use Rattle.writer.specs.Content.{Content, encode}
-use Rattle.writer.specs.Writes.{contentRefusals, contentNo, writeRefusals, writeNo, written, WriteSays}
+use Rattle.writer.specs.Writes.{contentRefusals, contentNo, roomRefusals, writeRefusals, writeNo, written, WriteSays}
 use Rattle.writer.proofs.Encoding.{content-numbered}
 
 module _ (c : Content) (out : List ℕ) (k : ℕ) (e : k ≡ contentNo c) where
   pub write-refused : (k ≡ 0 → ⊥) → WriteSays c out (record { no = k; length = 0 }) out
   unfolding contentNo writeNo writeRefusals written stored
   write-refused z =
-      let n = refused-first (contentRefusals c) (refuse 11 (ltb (length out) (length (encode c))) ∷ []) (content-numbered c) k e z in
+      let n = refused-first (contentRefusals c) (roomRefusals c (length out)) (content-numbered c) k e z in
       (rw (← n, ne-eqb k 0 z), rw (← n, ne-eqb k 0 z))
 
   module _ (z : k ≡ 0) where
-    by-room : writeNo c (length out) ≡ firstThat (refuse 11 (ltb (length out) (length (encode c))) ∷ [])
+    by-room : writeNo c (length out) ≡ firstThat (roomRefusals c (length out))
     unfolding contentNo writeNo writeRefusals
-    by-room = refused-later (contentRefusals c) (refuse 11 (ltb (length out) (length (encode c))) ∷ []) (content-numbered c) k e z
+    by-room = refused-later (contentRefusals c) (roomRefusals c (length out)) (content-numbered c) k e z
 
     pub write-short : length out < length (encode c) → WriteSays c out (record { no = 11; length = 0 }) out
     unfolding firstThat written stored

@@ -1,5 +1,5 @@
--- What a page is made of, and the page that it makes. From this one definition of the format both are proved: what reading finds on a page, and
--- what writing stores. After document 01, "Page".
+-- The page that a content makes, and the content that a page has. docs/PAGE.md has the format in words. That the two fit each other, and fit what
+-- reading accepts, is proofs/Encoding.antt.
 use mathlib.Core.List.{List, [], _∷_, _++_}
 use Prim.Native.Nat.{ℕ, zero, suc, _+_, _*_, _/_, _%_}
 use lib.ListN.{length}
@@ -47,8 +47,11 @@ unfoldable pub header : Content → List ℕ
 header c = twoBytes (headerFields (c .atoms) (rowTotal c) (length (c .literals)) (pairTotal c))
 
 -- the page: header, rows, literals, pairs
+abbrev pub body : Content → List ℕ
+body c = fourBytes (c .rows) ++ (c .literals ++ c .pairs)
+
 unfoldable pub encode : Content → List ℕ
-encode c = header c ++ (fourBytes (c .rows) ++ (c .literals ++ c .pairs))
+encode c = header c ++ body c
 
 -- ---- from a page to its content
 -- the counts of n rows from row r on

@@ -2,11 +2,11 @@
 use mathlib.Core.Path.{_≡_}
 use mathlib.Core.Bool.{Bool, _&&_, _||_, not, cond}
 use mathlib.Core.List.{List, [], _∷_, _++_}
-use Prim.Native.Nat.{ℕ, _%_, _≤_}
+use Prim.Native.Nat.{ℕ, _%_}
 use lib.Dec.{eqb, ltb}
 use lib.ListN.{length}
 use Rattle.page.specs.Refusals.{Refusal, refuse, firstThat, countsOut, partRefusals}
-use Rattle.engine.specs.Calls.{stored}
+use Rattle.engine.specs.Entries.{stored}
 use Rattle.writer.specs.Content.{Content, rowTotal, pairTotal, encode}
 use Rattle.writer.specs.declared.Written.{Written}
 
@@ -25,8 +25,11 @@ unfoldable pub contentNo : Content → ℕ
 contentNo c = firstThat (contentRefusals c)
 
 -- 11: the lent slice is shorter than the page
+abbrev pub roomRefusals : Content → ℕ → List Refusal
+roomRefusals c room = refuse 11 (ltb room (length (encode c))) ∷ []
+
 unfoldable pub writeRefusals : Content → ℕ → List Refusal
-writeRefusals c room = contentRefusals c ++ (refuse 11 (ltb room (length (encode c))) ∷ [])
+writeRefusals c room = contentRefusals c ++ roomRefusals c room
 
 unfoldable pub writeNo : Content → ℕ → ℕ
 writeNo c room = firstThat (writeRefusals c room)
@@ -38,7 +41,3 @@ written n c = record { no = n; length = cond (eqb n 0) (length (encode c)) 0 }
 -- the answer r of a call with this content and this slice, and the slice afterwards
 abbrev pub WriteSays : Content → List ℕ → Written → List ℕ → Type 0
 WriteSays c out r after = (r ≡ written (writeNo c (length out)) c) × (after ≡ stored (writeNo c (length out)) (encode c) out)
-
--- what is needed to go by 64-bit numbers, and to fit the longest page
-abbrev pub Sized : Content → Type 0
-Sized c = (c .atoms ≤ 16) × (rowTotal c ≤ 32) × (length (c .literals) ≤ 704) × (length (c .pairs) ≤ 16)

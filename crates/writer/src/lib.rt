@@ -1,17 +1,20 @@
 // Writes pages: from a number of atoms, rows of three counts, literals and pairs to the bytes of the page, in lent memory. Nothing is stored before
 // the whole content is accepted and there is room: the page is first made in memory of this call, and read as any page is.
 ghost use mathlib.Core.Path.{_≡_};
+ghost use mathlib.Core.Bool.{false};
 ghost use Prim.Native.Nat.{_+_, _*_, _/_, _≤_, _<_};
-ghost use lib.ListN.{length, getD};
+ghost use lib.ListN.{length};
+ghost use lib.Seq.{sets};
 ghost use Rattle.engine.specs.Entries.{over};
 ghost use Rattle.page.specs.Fields.{byteAt};
+ghost use Rattle.page.specs.Refusals.{countsOut};
 ghost use Rattle.writer.specs.Content.{content, headerFields, twoBytes, fourBytes, encode};
 ghost use Rattle.writer.specs.Writes as means;
 use page::accept;
 use page::fields;
 use page::ranges;
 
-// The refusal number, and how many bytes the page has.
+// The refusal number, and how many bytes the page has; 0 where refused.
 pub struct Written {
     pub no: u16,
     pub length: u16,
@@ -19,7 +22,7 @@ pub struct Written {
 
 // Byte i of the header of a page with so many atoms, rows, literals and pairs.
 fn header_byte(atoms: usize, rows: usize, literals: usize, pairs: usize, i: usize) -> u8
-    requires { ⌜ (atoms ≤ 16) × (rows ≤ 32) × (literals ≤ 704) × (pairs ≤ 8) × (i < 18) ⌝ }
+    requires { ⌜ (countsOut atoms rows literals pairs ≡ false) × (i < 18) ⌝ }
     ensures { λ r. ⌜ r ≡ byteAt (twoBytes (headerFields atoms rows literals pairs)) i ⌝ }
 {
     let literals_at = 18 + 4 * rows;
@@ -45,7 +48,7 @@ fn header_byte(atoms: usize, rows: usize, literals: usize, pairs: usize, i: usiz
 
 // Byte i of the rows: after the three counts of a row comes a zero.
 fn row_byte(rows: &[u8], i: usize) -> u8
-    requires { ⌜ (length (now rows) ≤ 98) × (i < 4 * (length (now rows) / 3)) ⌝ }
+    requires { ⌜ i < 4 * (length (now rows) / 3) ⌝ }
     ensures { λ r. ⌜ r ≡ byteAt (fourBytes (now (rows .entry))) i ⌝ }
 {
     let k = i % 4;
@@ -55,29 +58,46 @@ fn row_byte(rows: &[u8], i: usize) -> u8
     0
 }
 
-// Byte i of the page.
-fn page_byte(atoms: usize, rows: &[u8], literals: &[u8], pairs: &[u8], i: usize) -> u8
-    requires { ⌜ means.Sized (content atoms (now rows) (now literals) (now pairs)) ⌝ }
-    ensures { λ r. ⌜ r ≡ byteAt (encode (content atoms (now (rows .entry)) (now (literals .entry)) (now (pairs .entry)))) i ⌝ }
+// Stores the header.
+fn put_header(atoms: usize, rows: usize, literals: usize, pairs: usize, out: &mut [u8])
+    requires { ⌜ (countsOut atoms rows literals pairs ≡ false) × (18 ≤ length (now out)) ⌝ }
+    ensures { λ r. ⌜ now (out .exit) ≡ sets (now (out .entry)) 0 (twoBytes (headerFields atoms rows literals pairs)) ⌝ }
 {
-    let row_total = rows.len() / 3;
-    if i < 18 {
-        return header_byte(atoms, row_total, literals.len(), pairs.len() / 2, i);
+    let mut i = 0;
+    while i < 18 {
+        out[i] = header_byte(atoms, rows, literals, pairs, i);
+        i += 1;
     }
-    let literals_at = 18 + 4 * row_total;
-    if i < literals_at {
-        return row_byte(rows, i - 18);
+}
+
+// Stores the rows, after the header.
+fn put_rows(rows: &[u8], out: &mut [u8])
+    requires { ⌜ 18 + 4 * (length (now rows) / 3) ≤ length (now out) ⌝ }
+    ensures { λ r. ⌜ now (out .exit) ≡ sets (now (out .entry)) 18 (fourBytes (now (rows .entry))) ⌝ }
+{
+    let end = 4 * (rows.len() / 3);
+    let mut i = 0;
+    while i < end {
+        out[18 + i] = row_byte(rows, i);
+        i += 1;
     }
-    let pairs_at = literals_at + literals.len();
-    if i < pairs_at {
-        return fields::byte_at(literals, i - literals_at);
+}
+
+// Stores a part as it is, from place `at` on.
+fn put(part: &[u8], at: usize, out: &mut [u8])
+    requires { ⌜ (at + length (now part) ≤ length (now out)) ⌝ }
+    ensures { λ r. ⌜ now (out .exit) ≡ sets (now (out .entry)) at (now (part .entry)) ⌝ }
+{
+    let mut i = 0;
+    while i < part.len() {
+        out[at + i] = part[i];
+        i += 1;
     }
-    fields::byte_at(pairs, i - pairs_at)
 }
 
 // How long the page is.
 fn page_length(atoms: usize, rows: &[u8], literals: &[u8], pairs: &[u8]) -> usize
-    requires { ⌜ means.Sized (content atoms (now rows) (now literals) (now pairs)) ⌝ }
+    requires { ⌜ means.sizesOut (content atoms (now rows) (now literals) (now pairs)) ≡ false ⌝ }
     ensures { λ r. ⌜ (r ≡ length (encode (content atoms (now (rows .entry)) (now (literals .entry)) (now (pairs .entry))))) × (r ≤ 866) ⌝ }
 {
     18 + 4 * (rows.len() / 3) + literals.len() + pairs.len()
@@ -85,15 +105,15 @@ fn page_length(atoms: usize, rows: &[u8], literals: &[u8], pairs: &[u8]) -> usiz
 
 // Stores the page at the start of a slice that has room for it.
 fn fill(atoms: usize, rows: &[u8], literals: &[u8], pairs: &[u8], out: &mut [u8])
-    requires { ⌜ means.Sized (content atoms (now rows) (now literals) (now pairs)) × (length (encode (content atoms (now rows) (now literals) (now pairs))) ≤ length (now out)) ⌝ }
+    requires { ⌜ (means.sizesOut (content atoms (now rows) (now literals) (now pairs)) ≡ false) × (length (encode (content atoms (now rows) (now literals) (now pairs))) ≤ length (now out)) ⌝ }
     ensures { λ r. ⌜ now (out .exit) ≡ over (encode (content atoms (now (rows .entry)) (now (literals .entry)) (now (pairs .entry)))) (now (out .entry)) ⌝ }
 {
-    let end = page_length(atoms, rows, literals, pairs);
-    let mut i = 0;
-    while i < end {
-        out[i] = page_byte(atoms, rows, literals, pairs, i);
-        i += 1;
-    }
+    let row_total = rows.len() / 3;
+    let literals_at = 18 + 4 * row_total;
+    put_header(atoms, row_total, literals.len(), pairs.len() / 2, &mut *out);
+    put_rows(rows, &mut *out);
+    put(literals, literals_at, &mut *out);
+    put(pairs, literals_at + literals.len(), &mut *out);
 }
 
 // 3: lengths that are no whole number of rows or of pairs, or numbers outside their range.

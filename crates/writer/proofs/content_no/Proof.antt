@@ -1,17 +1,15 @@
 -- `content_no` refuses sizes by 3; else it makes the page, and the page's number is the content's. Assumes nothing.
 use mathlib.Core.Path.{_≡_, sym, ap, _∙_}
 use mathlib.Core.Bool.{false}
-use mathlib.Core.List.{List}
-use Prim.Native.Nat.{ℕ, _≤_}
 use native.Mathlib.Omega.{arith}
 use denote.Ref.{now}
+use lib.Seq.{length-take-le}
 use borrow.Author.Needs.{needs}
 use Rattle.page.specs.Refusals.{pageNo}
 use Rattle.page.proofs.Refusals.{first-here}
-use Rattle.words.proofs.Lent.{words-many}
-use Rattle.writer.specs.Content.{Content, content, encode}
+use Rattle.writer.specs.Content.{Content, content}
 use Rattle.writer.specs.Writes.{sizesOut, contentRefusals, contentNo}
-use Rattle.writer.proofs.Encoding.{sized, same-number}
+use Rattle.writer.proofs.Encoding.{same-number}
 use Rattle.writer.proofs.Ways.{made-room, made-lent}
 use Rattle.writer.proofs.content_no.Statement.{statement}
 use Rattle.writer.proofs.content_no.Tie as tie
@@ -31,18 +29,18 @@ fine : (c : tie.Else1) → sizesOut (given (c .before .before .before .before .b
 fine c = sym (c .before .sizes-out .ensures) ∙ c .if1 .left
 
 page-length-requires : tie.Need-page-length-requires
-page-length-requires c κs = sized _ (fine c)
+page-length-requires c κs = fine c
 
 array-borrow-prefix-page : tie.Need-array-borrow-prefix-page
 array-borrow-prefix-page c = search needs
 
 slice-aggregate-fill : tie.Need-slice-aggregate-fill
-slice-aggregate-fill c = words-many _ _ (array-borrow-prefix-page (c .before))
+slice-aggregate-fill c = sym (length-take-le _ _ (array-borrow-prefix-page (c .before)))
 
 fill-requires : tie.Need-fill-requires
 fill-requires c κs =
     let p = c .before in
-    (sized _ (fine (p .before)), omega (arith, p .page-length .ensures .0, slice-aggregate-fill c))
+    (fine (p .before), omega (arith, p .page-length .ensures .0, slice-aggregate-fill c))
 
 array-share-prefix-page : tie.Need-array-share-prefix-page
 array-share-prefix-page c =
@@ -50,7 +48,7 @@ array-share-prefix-page c =
     made-room _ _ _ _ _ (f .fill .ensures) (f .before .before .page-length .ensures .0) (slice-aggregate-fill (f .before))
 
 slice-aggregate-page-no : tie.Need-slice-aggregate-page-no
-slice-aggregate-page-no c = words-many _ _ (array-share-prefix-page (c .before))
+slice-aggregate-page-no c = sym (length-take-le _ _ (array-share-prefix-page (c .before)))
 
 page-no-requires : tie.Need-page-no-requires
 page-no-requires c κs = search needs

@@ -1,82 +1,79 @@
--- `fill` stores byte after byte. What is kept: so many bytes of the page stand at the start of the slice, and the rest is to come. Assumes nothing.
-use mathlib.Core.Path.{_≡_, refl, sym, _∙_}
-use mathlib.Core.List.{List}
-use Prim.Native.Nat.{ℕ, _+_, _-_, _≤_, _<_}
+-- `fill` stores the four parts, one after the other. No store changes how long the slice is. Assumes nothing.
 use native.Mathlib.Omega.{arith}
 use denote.Ref.{now}
-use lib.ListN.{length, drop, drop-of-length-le}
-use Rattle.engine.proofs.SetsStored.{Filled, filled-none, filled-room, filled-more, filled-all}
-use Rattle.writer.specs.Content.{content, encode}
-use Rattle.writer.proofs.Bytes.{bytes-next}
+use borrow.Author.Needs.{needs}
+use Rattle.writer.specs.Content.{Content, content, header, fourBytes}
+use Rattle.writer.proofs.Bytes.{length-page, sets-keep, parts-page}
+use Rattle.writer.proofs.Encoding.{counts-fine, page-most}
 use Rattle.writer.proofs.fill.Statement.{statement}
 use Rattle.writer.proofs.fill.Tie as tie
 
-abbrev Inv-loop : tie.InvT-loop
-Inv-loop atoms rows literals pairs out₀ end i₀ out i =
-    (i ≤ length (encode (content atoms rows literals pairs)))
-    × Filled (encode (content atoms rows literals pairs)) (drop i (encode (content atoms rows literals pairs))) out out₀ i
+abbrev given : tie.Start → Content
+given s = content (s .args .atoms) (now (s .args .rows)) (now (s .args .literals)) (now (s .args .pairs))
 
-abbrev μ-loop : tie.MeasureT-loop
-μ-loop atoms rows literals pairs out₀ end i₀ out i = end - i
+mul-literals-at : tie.Need-mul-literals-at
+mul-literals-at c = search needs
 
-page-length-requires : tie.Need-page-length-requires Inv-loop μ-loop
-page-length-requires c κs = c .before .before .before .before .pre .0
+add-literals-at : tie.Need-add-literals-at
+add-literals-at c = search needs
 
-loop-holds : tie.Need-loop-holds Inv-loop μ-loop
-loop-holds c = (omega arith, filled-none _ _ _ refl)
+put-header-requires : tie.Need-put-header-requires
+put-header-requires c κs =
+    let s = c .before .before .before .before .before in
+    (counts-fine (given s) (s .pre .0), omega (arith, s .pre .1, length-page (given s)))
 
-page-byte-requires : tie.Need-page-byte-requires Inv-loop μ-loop
-page-byte-requires c κs = c .before .before .before .before .before .before .before .pre .0
+put-rows-requires : tie.Need-put-rows-requires
+unfolding header
+put-rows-requires c κs =
+    let h = c .before .before .before in
+    let s = h .before .before .before .before .before .before in
+    omega (arith, s .pre .1, length-page (given s), sets-keep 0 (header (given s)) _ _ (h .put-header .ensures))
 
--- the page; there is a byte i of it
-abbrev made : tie.After-page-byte Inv-loop μ-loop → List ℕ
-made c =
-    let a = c .before .before .before .before .before .before .before .before .args in
-    encode (content (a .atoms) (now (a .rows)) (now (a .literals)) (now (a .pairs)))
+put-requires : tie.Need-put-requires
+unfolding header
+put-requires c κs =
+    let r = c .before .before .before in
+    let h = r .before .before .before .before in
+    let s = h .before .before .before .before .before .before in
+    omega (arith, s .pre .1, length-page (given s), sets-keep 0 (header (given s)) _ _ (h .put-header .ensures), sets-keep 18 (fourBytes (now (s .args .rows))) _ _ (r .put-rows .ensures))
 
-here : (c : tie.After-page-byte Inv-loop μ-loop) → c .before .before .loop .i < length (made c)
-here c = omega (arith, c .before .loop-test .taken, c .before .before .before .page-length .ensures .0)
+add-put : tie.Need-add-put
+add-put c =
+    let s = c .before .before .before .before .before .before .before .before .before .before .before .before .before .before .before .before in
+    omega (arith, length-page (given s), page-most (given s) (s .pre .0))
 
-slice-write-out : tie.Need-slice-write-out Inv-loop μ-loop
-slice-write-out c =
-    let h = c .before .before .loop in
-    let start = c .before .before .before .before .before .before .before .before in
-    filled-room (h .inv .1) _ _ (bytes-next _ (h .i) _ (here c) (c .page-byte .ensures)) (start .pre .1)
+put-requires-2 : tie.Need-put-requires-2
+unfolding header
+put-requires-2 c κs =
+    let l = c .before .before .before in
+    let r = l .before .before .before .before in
+    let h = r .before .before .before .before in
+    let s = h .before .before .before .before .before .before in
+    omega (arith, s .pre .1, length-page (given s), sets-keep 0 (header (given s)) _ _ (h .put-header .ensures), sets-keep 18 (fourBytes (now (s .args .rows))) _ _ (r .put-rows .ensures), sets-keep _ (now (s .args .literals)) _ _ (l .put .ensures))
 
-add-i : tie.Need-add-i Inv-loop μ-loop
-add-i c = omega (arith, c .before .loop-test .taken, c .before .before .before .page-length .ensures .1)
+same-length : tie.Need-same-length
+same-length c = search needs
 
-loop-less : tie.Need-loop-less Inv-loop μ-loop
-loop-less c = omega (arith, c .before .loop-test .taken)
-
-loop-again : tie.Need-loop-again Inv-loop μ-loop
-loop-again c =
-    let h = c .before .before .loop in
-    let start = c .before .before .before .before .before .before .before .before in (
-      omega (arith, here c),
-      filled-more (h .inv .1) _ _ (bytes-next _ (h .i) _ (here c) (c .page-byte .ensures)) (start .pre .1) _ _ refl refl,
-    )
-
-same-length : tie.Need-same-length Inv-loop μ-loop
-same-length c = c .before .loop .inv .1 .same
-
-returns : tie.Need-returns Inv-loop μ-loop
+returns : tie.Need-returns
+unfolding header
 returns c =
-    let h = c .before .loop in
-    filled-all (h .inv .1) (drop-of-length-le _ {i = h .i} (omega (arith, c .loop-test .left, c .before .before .page-length .ensures .0)))
+    let q = c .before .before in
+    let l = q .before .before .before .before in
+    let r = l .before .before .before .before in
+    let h = r .before .before .before .before in
+    let s = h .before .before .before .before .before .before in
+    parts-page (given s) (now (s .args .out)) _ _ _ _ (s .pre .1) (h .put-header .ensures) (r .put-rows .ensures) (l .put .ensures) (q .put2 .ensures)
 
 pub fill-spec : {M : Type 1} → statement M
 fill-spec =
     tie.close
     (tie.spec
-    Inv-loop
-    μ-loop
-    page-length-requires
-    loop-holds
-    page-byte-requires
-    slice-write-out
-    add-i
-    loop-less
-    loop-again
+    mul-literals-at
+    add-literals-at
+    put-header-requires
+    put-rows-requires
+    put-requires
+    add-put
+    put-requires-2
     same-length
     returns)

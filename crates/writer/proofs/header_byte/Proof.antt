@@ -3,25 +3,30 @@ use mathlib.Core.Path.{sym}
 use Prim.Native.Nat.{_/_}
 use native.Mathlib.Omega.{arith}
 use borrow.Author.Needs.{needs}
+use Rattle.page.proofs.Accepted.{InRanges, counts-in}
 use Rattle.writer.specs.Content.{headerFields}
 use Rattle.writer.proofs.Bytes.{low-byte, high-byte, fields-most}
 use Rattle.writer.proofs.header_byte.Statement.{statement}
 use Rattle.writer.proofs.header_byte.Tie as tie
 
+-- the four numbers are in their ranges
+sizes : (c : tie.Start) → InRanges (c .args .atoms) (c .args .rows) (c .args .literals) (c .args .pairs)
+sizes c = counts-in _ _ _ _ (c .pre .0)
+
 mul-literals-at : tie.Need-mul-literals-at
-mul-literals-at c = search needs
+mul-literals-at c = let r = sizes c in omega (arith, r .rows-most)
 
 add-literals-at : tie.Need-add-literals-at
-add-literals-at c = search needs
+add-literals-at c = let r = sizes c in omega (arith, r .rows-most)
 
 add-pairs-at : tie.Need-add-pairs-at
-add-pairs-at c = search needs
+add-pairs-at c = let r = sizes c in omega (arith, r .rows-most, r .literals-most)
 
 mul-end : tie.Need-mul-end
-mul-end c = search needs
+mul-end c = let r = sizes c in omega (arith, r .pairs-most)
 
 add-end : tie.Need-add-end
-add-end c = search needs
+add-end c = let r = sizes c in omega (arith, r .rows-most, r .literals-most, r .pairs-most)
 
 mul-n : tie.Need-mul-n
 mul-n c = search needs
@@ -40,8 +45,7 @@ cast-result-2 : tie.Need-cast-result-2
 unfolding headerFields
 cast-result-2 c =
     let a = c .before .args in
-    let p = c .before .pre in
-    omega (arith, fields-most (a .atoms) (a .rows) (a .literals) (a .pairs) (a .i / 2) (p .0) (p .1) (p .2) (p .3))
+    omega (arith, fields-most (a .atoms) (a .rows) (a .literals) (a .pairs) (a .i / 2) (sizes (c .before)))
 
 returns-2 : tie.Need-returns-2
 unfolding headerFields

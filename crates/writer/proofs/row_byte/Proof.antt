@@ -1,6 +1,5 @@
 -- `row_byte` takes the count at its place, and a zero after the third. Assumes nothing.
 use mathlib.Core.Path.{sym, _∙_}
-use native.Mathlib.Omega.{arith}
 use borrow.Author.Needs.{needs}
 use Rattle.writer.proofs.Bytes.{count-byte, zero-byte}
 use Rattle.writer.proofs.row_byte.Statement.{statement}
@@ -18,7 +17,7 @@ byte-at-requires c κs = search needs
 returns : tie.Need-returns
 returns c =
     let t = c .before in
-    c .byte-at .ensures ∙ sym (count-byte _ _ (t .if1 .taken) (t .before .before .pre .1))
+    c .byte-at .ensures ∙ sym (count-byte _ _ (t .if1 .taken) (t .before .before .pre))
 
 returns-2 : tie.Need-returns-2
 returns-2 c = sym (zero-byte _ _ (c .if1 .left))

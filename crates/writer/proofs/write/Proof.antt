@@ -5,7 +5,7 @@ use denote.Ref.{now}
 use borrow.Author.Needs.{needs}
 use Rattle.writer.specs.Content.{Content, content}
 use Rattle.writer.specs.Writes.{contentNo}
-use Rattle.writer.proofs.Encoding.{sized, valid-sizes}
+use Rattle.writer.proofs.Encoding.{valid-sizes}
 use Rattle.writer.proofs.Ways.{write-refused, write-short, write-made}
 use Rattle.writer.proofs.write.Statement.{statement}
 use Rattle.writer.proofs.write.Tie as tie
@@ -24,7 +24,7 @@ valid : (c : tie.Else1) → contentNo (given (c .before .before .before .before 
 valid c = sym (c .before .content-no .ensures) ∙ c .if1 .left
 
 page-length-requires : tie.Need-page-length-requires
-page-length-requires c κs = sized _ (valid-sizes _ (valid c))
+page-length-requires c κs = valid-sizes _ (valid c)
 
 returns-2 : tie.Need-returns-2
 returns-2 c =
@@ -35,7 +35,7 @@ returns-2 c =
 fill-requires : tie.Need-fill-requires
 fill-requires c κs =
     let p = c .before .before in
-    (sized _ (valid-sizes _ (valid (p .before))), omega (arith, c .before .if2 .left, p .page-length .ensures .0))
+    (valid-sizes _ (valid (p .before)), omega (arith, c .before .if2 .left, p .page-length .ensures .0))
 
 cast-t13 : tie.Need-cast-t13
 cast-t13 c = search needs
