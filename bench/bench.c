@@ -53,7 +53,8 @@ static size_t field(int at) { return page[at] + 256u * page[at + 1]; }
 
 static uint32_t write_again(int which) {
     const uint8_t *literals = page + field(12), *pairs = page + field(14);
-    return solver[which].write(field(2), counts, 3 * field(4), literals, field(6), pairs, 2 * field(8), written[which], sizeof written[which]);
+    return solver[which].write(field(2), counts, 3 * field(4), literals, field(6), pairs, 2 * field(8), written[which],
+                               sizeof written[which]);
 }
 
 static uint64_t call(int which, int what) {
@@ -98,7 +99,8 @@ static int measure(int what, double *least) {
         if (memcmp(sets[0], sets[1], count * sizeof sets[0][0])) return 0;
         if (what == LIST) listed = (uint32_t)count;
     }
-    if (what == WRITE && (PIPEOTTER_VALUE(answer) != length || memcmp(written[0], page, length) || memcmp(written[1], page, length))) return 0;
+    if (what == WRITE && PIPEOTTER_VALUE(answer) != length) return 0;
+    if (what == WRITE && (memcmp(written[0], page, length) || memcmp(written[1], page, length))) return 0;
     double both = least[0] + least[1];
     long times = both < 0.002 ? (long)(0.002 / both) + 1 : 1;
     int turns = both * (double)times < 0.05 ? 20 : both < 1 ? 6 : 0;

@@ -1,11 +1,11 @@
 /* Pipeotter for C: which sets of atoms does a page of ranked rules allow, which of them is best, and what a display shows
-   by it. One call more makes a page.
+   by it. One more call makes a page from its parts.
 
    Link with libcapi.a (x86-64; `rt staticlib capi` writes it). It wants memcpy and memset from you, and a compiler for C99
    or C++11. The calls keep nothing between them, take no heap, and touch only what you lend. List, best, pick and display
-   need up to 9.2 KiB of stack, the split test 5.6 KiB, every other call less than 1 KiB. A call reads the page some three
-   times, however many sets it tries (docs/SPEED.md, which also tells of time). The calls may be made from several threads
-   at once if no lent slice is written by two.
+   need up to 9.2 KiB of stack, the split test 5.6 KiB, the writer 1.3 KiB, every other call less than 1 KiB. A call that
+   takes a page reads it some three times, however many sets it tries (docs/SPEED.md, which also tells of time). The calls
+   may be made from several threads at once if no lent slice is written by two.
 
    Words used here
      page    the bytes of one page, form 1: header of 18 bytes, rows, literals, pairs (docs/PAGE.md)
@@ -167,9 +167,9 @@ static inline float pipeotter_shown_reading(uint64_t result) {
    rows      three bytes a row: how many atoms its head, its positive and its negative body have. R is rows_length / 3
    literals  one atom a byte, row after row: the head, then the positive, then the negative body. L is literals_length
    pairs     two atoms a pair, one a byte. Q is pairs_length / 2
-   Each of the three may be empty, but none null, not even then. They are never changed; `buffer` must not overlap them.
+   Each of the three may be empty, but never null. They are not changed; `buffer` must not overlap them.
    Value: the page's length, 18 + 4R + L + 2Q. The page stands in buffer[0] up to buffer[length - 1]; every later byte is
-   unchanged. No call finds a fault in this page, and it reads back as what was given. An accepted page that is read and
+   unchanged. No call refuses this page by 1 to 8, and it reads back as what was given. An accepted page that is read and
    written again has the same bytes.
    Refusals, in order: 3 (A, R, L or Q; or rows_length no multiple of 3, or pairs_length odd), 5, 6, 7, 8, 11 (room below
    the length; PIPEOTTER_LONGEST_PAGE is always enough). A refused call stores nothing, not even a part. */

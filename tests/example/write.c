@@ -10,7 +10,7 @@ static const uint8_t pairs[] = {0, 1};
 
 static uint8_t page[PIPEOTTER_LONGEST_PAGE];
 
-static uint16_t write(size_t atoms) {
+static uint16_t make(size_t atoms) {
     uint32_t answer = pipeotter_write(atoms, rows, sizeof rows, literals, sizeof literals, pairs, sizeof pairs, page, sizeof page);
     uint16_t number = PIPEOTTER_NUMBER(answer);
     if (number != PIPEOTTER_ACCEPTED) printf("%u atom: refused %u %c\n", (unsigned)atoms, number, pipeotter_letter(number));
@@ -18,10 +18,10 @@ static uint16_t write(size_t atoms) {
 }
 
 int main(void) {
-    uint16_t length = write(2);
+    uint16_t length = make(2);
     printf("%u bytes:", length);
     for (uint16_t i = 0; i < length; i++) printf(" %02x", page[i]);
     printf("\npick %u\n", PIPEOTTER_VALUE(pipeotter_pick(page, length, 0)));
-    write(1); /* literals and pairs name atom 1, which is not below 1 */
+    make(1); /* literals and pairs name atom 1, which is not below 1 */
     return 0;
 }

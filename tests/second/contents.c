@@ -126,7 +126,7 @@ static void miscount(Content *content, Random *random, int list, int which) {
     *count = (uint8_t)((counts[which].adds ? *count : 0) + counts[which].count);
 }
 
-/* One list counts an atom more, another one less: the sum stays. */
+/* One list counts an atom more, another one less: the sum stays, but where the latter had none. */
 static void trade(Content *content, Random *random) {
     content->rows.byte[3 * some_row(content, random) + random_below(random, 3)]++;
     content->rows.byte[3 * some_row(content, random) + random_below(random, 3)]--;

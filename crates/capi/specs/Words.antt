@@ -6,9 +6,8 @@ use Prim.Native.Nat.{ℕ, zero, suc, _+_, _*_}
 use lib.IntN.{ℤ, pos, negsuc}
 use lib.ListN.{length}
 use lib.Ieee.{Float, nan}
-use Rattle.lpod.specs.Answer.{answerSets}
 use Rattle.lpod.specs.Preferred.{compare}
-use Rattle.lpod.specs.Best.{bestSets, pick}
+use Rattle.lpod.specs.Best.{pick}
 use Rattle.page.specs.Fields.{rowCount}
 use Rattle.page.specs.Program.{program}
 use Rattle.routes.specs.Tests.{reductTest, hereThereTest}

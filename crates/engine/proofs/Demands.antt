@@ -2,22 +2,22 @@
 -- which is the call's own contract, and says what a user may rely on. That a call takes every input, reads nothing outside what it was
 -- lent, wraps no number and ends needs no theorem here: no public function asks anything of its caller, and the check shows the rest of
 -- each function. Assumes nothing.
-use mathlib.Core.Path.{_≡_, refl, sym, ap, _∙_, subst}
+use mathlib.Core.Path.{_≡_, refl, sym, ap, _∙_}
 use mathlib.Core.Bool.{Bool, true, false, _&&_, cond}
-use mathlib.Core.Logic.{_⊎_, inl, inr, ⊎-elim, _↔_}
-use mathlib.Core.List.{List, [], _∷_, _++_, map, List·Memᴰ, List·Memᴰ·head}
+use mathlib.Core.Logic.{_↔_}
+use mathlib.Core.List.{List, [], _∷_, List·Memᴰ, List·Memᴰ·head}
 use mathlib.Core.Option.{Option, some, none}
 use Prim.Native.Nat.{ℕ, _^_, _≤_, _<_}
 use native.Mathlib.Omega.{arith}
-use lib.Dec.{T, eqb, ltb}
-use lib.IntN.{ℤ, pos, negsuc}
+use lib.Dec.{T, ltb}
+use lib.IntN.{pos, negsuc}
 use lib.ListN.{length, take, drop}
 use borrow.Author.Tests.{ne-eqb}
 use Rattle.atoms.proofs.Truth.{and-l, and-r, both, true-yes}
 use Rattle.lpod.specs.Lists.{every, Rising}
 use Rattle.lpod.specs.Rule.{Program}
 use Rattle.lpod.specs.Answer.{answer, answerSets}
-use Rattle.lpod.specs.Degree.{degree, degrees}
+use Rattle.lpod.specs.Degree.{degrees}
 use Rattle.lpod.specs.Preferred.{preferred, compare}
 use Rattle.lpod.specs.Best.{noneOver, best, bestSets, pick}
 use Rattle.lpod.proofs.ReductIsHereThere.{reduct-is-here-there}
@@ -25,14 +25,14 @@ use Rattle.lpod.proofs.InclusionOrder.{Preferred, preferred-says}
 use Rattle.lpod.proofs.BestAbove.{none-says, says-none}
 use Rattle.lpod.proofs.ListsExact.{answers-exact, answers-rise, bests-exact, bests-rise}
 use Rattle.lpod.proofs.PickIsBest.{best-above-answer, no-pick, pick-lowest}
-use Rattle.page.specs.Fields.{rowCount, atomCount}
+use Rattle.page.specs.Fields.{rowCount}
 use Rattle.page.specs.Program.{program}
 use Rattle.page.specs.Refusals.{refuse, firstThat, numbered, pageRefusals, flagRefusals, setRefusals, testRefusals, pageNo, flagNo, testNo}
 use Rattle.page.proofs.Refusals.{page-numbered, flag-numbered, test-numbered, first-append, given-append}
 use Rattle.routes.specs.Tests.{verdict, reductTest, hereThereTest, ReductSays, HereThereSays}
 use Rattle.routes.specs.Split.{splitRefusals, splitNo, splitTest}
 use Rattle.routes.specs.declared.Verdict.{Verdict}
-use Rattle.routes.proofs.SplitCounts.{split-says, split-gives, split-refused}
+use Rattle.routes.proofs.SplitCounts.{split-says, split-gives}
 use Rattle.engine.specs.Entries.{stored}
 use Rattle.engine.specs.Calls.{listRefusals, listNo, listed, SetsSay, ListSays, BestSays, isEmpty, pickRefusals, pickNo, setOr, picked, PickSays}
 use Rattle.engine.specs.Degrees.{degreesRefusals, degreesNo, graded, degreesAfter, DegreesSays}

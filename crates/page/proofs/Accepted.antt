@@ -1,7 +1,7 @@
 -- What acceptance gives: the header's ranges, the page's length, small counts in every row, places that stay inside, atoms below A, bodies that
 -- rise. Each is one of the refusals that does not hold, read back. Assumes nothing.
 use mathlib.Core.Path.{_≡_, refl, sym, _∙_}
-use mathlib.Core.Bool.{Bool, true, false, _&&_, not, false≢true}
+use mathlib.Core.Bool.{Bool, true, false, _&&_, false≢true}
 use mathlib.Core.List.{List}
 use Prim.Native.Nat.{ℕ, _*_, _≤_, _<_}
 use native.Mathlib.Omega.{arith}

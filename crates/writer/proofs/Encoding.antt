@@ -21,7 +21,7 @@ use Rattle.page.proofs.Refusals.{page-numbered, given-denied}
 use Rattle.page.proofs.Places.{length-literals}
 use Rattle.page.proofs.RowSteps.{Bytes}
 use Rattle.page.proofs.Accepted.{InRanges, counts-in, form-one, placed, whole-length, counts}
-use Rattle.writer.specs.Content.{Content, rowTotal, pairTotal, headerFields, twoBytes, fourBytes, header, body, encode, countsFrom, contentOf}
+use Rattle.writer.specs.Content.{Content, rowTotal, pairTotal, headerFields, fourBytes, header, body, encode, countsFrom, contentOf}
 use Rattle.writer.specs.Writes.{ragged, sizesOut, contentRefusals, contentNo}
 use Rattle.writer.proofs.Bytes.{length-header, length-rows, length-page}
 use Rattle.writer.proofs.Runs.{run-past, run-first, run-all, run-cut, wordsFrom, words-run, rows-run, length-counts, counts-back}

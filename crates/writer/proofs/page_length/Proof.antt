@@ -1,6 +1,5 @@
 -- `page_length` adds up the lengths of the four parts. Assumes nothing.
-use mathlib.Core.Path.{_≡_, sym, subst}
-use Prim.Native.Nat.{ℕ, _≤_}
+use mathlib.Core.Path.{sym}
 use native.Mathlib.Omega.{arith}
 use denote.Ref.{now}
 use Rattle.writer.specs.Content.{Content, content}

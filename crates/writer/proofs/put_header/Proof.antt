@@ -1,10 +1,9 @@
 -- `put_header` stores the header byte after byte. Assumes nothing.
-use mathlib.Core.Path.{refl, sym, ap}
+use mathlib.Core.Path.{sym, ap}
 use Prim.Native.Nat.{ℕ, _-_, _≤_}
 use native.Mathlib.Nat.{zero-add}
 use native.Mathlib.Omega.{arith}
-use denote.Ref.{now}
-use lib.ListN.{length, set}
+use lib.ListN.{set}
 use Rattle.writer.specs.Content.{headerFields, twoBytes}
 use Rattle.writer.proofs.Bytes.{length-fields, Stored, stored-none, stored-more, stored-all}
 use Rattle.writer.proofs.put_header.Statement.{statement}

@@ -3,7 +3,6 @@ use mathlib.Core.Path.{refl}
 use Prim.Native.Nat.{_-_, _≤_}
 use native.Mathlib.Omega.{arith}
 use denote.Ref.{now}
-use lib.ListN.{length}
 use Rattle.writer.specs.Content.{fourBytes}
 use Rattle.writer.proofs.Bytes.{length-rows, Stored, stored-none, stored-more, stored-all}
 use Rattle.writer.proofs.put_rows.Statement.{statement}
