@@ -16,7 +16,7 @@ use Rattle.page.specs.Fields.{byteAt}
 use Rattle.page.proofs.Accepted.{InRanges}
 use Rattle.engine.specs.Entries.{over}
 use Rattle.engine.proofs.Stored.{over-sets}
-use Rattle.writer.specs.Content.{Content, rowTotal, headerFields, twoBytes, fourBytes, header, body, encode}
+use Rattle.writer.specs.Content.{Content, rowTotal, headerFields, twoBytes, fourBytes, header, parts, encode}
 
 -- ---- two bytes for a number
 pub low-byte : (l : List ℕ) (i : ℕ) → i % 2 ≡ 0 → byteAt (twoBytes l) i ≡ byteAt l (i / 2) % 256
@@ -105,7 +105,7 @@ unfolding encode
 length-page c =
     omega (
       arith,
-      length-append (header c) (body c),
+      length-append (header c) (parts c),
       length-append (fourBytes (c .rows)) (c .literals ++ c .pairs),
       length-append (c .literals) (c .pairs),
       length-header c,

@@ -21,7 +21,7 @@ use Rattle.page.proofs.Refusals.{page-numbered, given-denied}
 use Rattle.page.proofs.Places.{length-literals}
 use Rattle.page.proofs.RowSteps.{Bytes}
 use Rattle.page.proofs.Accepted.{InRanges, counts-in, form-one, placed, whole-length, counts}
-use Rattle.writer.specs.Content.{Content, rowTotal, pairTotal, headerFields, fourBytes, header, body, encode, countsFrom, contentOf}
+use Rattle.writer.specs.Content.{Content, rowTotal, pairTotal, headerFields, fourBytes, header, parts, encode, countsFrom, contentOf}
 use Rattle.writer.specs.Writes.{ragged, sizesOut, contentRefusals, contentNo}
 use Rattle.writer.proofs.Bytes.{length-header, length-rows, length-page}
 use Rattle.writer.proofs.Runs.{run-past, run-first, run-all, run-cut, wordsFrom, words-run, rows-run, length-counts, counts-back}
@@ -72,7 +72,7 @@ module _ (c : Content) (h : sizesOut c ≡ false) where
   unfolding encode
   literals-back =
       rw (made-literals-at c, made-literals c)
-      (run-past (header c) (body c) (4 * rowTotal c) (length (c .literals)) (18 + 4 * rowTotal c) (omega (arith, length-header c))
+      (run-past (header c) (parts c) (4 * rowTotal c) (length (c .literals)) (18 + 4 * rowTotal c) (omega (arith, length-header c))
       ∙ run-past (fourBytes (c .rows)) (c .literals ++ c .pairs) 0 (length (c .literals)) (4 * rowTotal c) (omega (arith, length-rows (c .rows)))
       ∙ run-first (c .literals) (c .pairs))
 
@@ -80,7 +80,7 @@ module _ (c : Content) (h : sizesOut c ≡ false) where
   unfolding encode
   pairs-back =
       rw (made-pairs-at c, made-pairs c, ← pairs-whole)
-      (run-past (header c) (body c) (4 * rowTotal c + length (c .literals)) (length (c .pairs)) (18 + 4 * rowTotal c + length (c .literals))
+      (run-past (header c) (parts c) (4 * rowTotal c + length (c .literals)) (length (c .pairs)) (18 + 4 * rowTotal c + length (c .literals))
       (omega (arith, length-header c))
       ∙ run-past (fourBytes (c .rows)) (c .literals ++ c .pairs) (length (c .literals)) (length (c .pairs)) (4 * rowTotal c + length (c .literals)) (omega (arith, length-rows (c .rows)))
       ∙ run-past (c .literals) (c .pairs) 0 (length (c .pairs)) (length (c .literals)) (omega arith)
@@ -91,7 +91,7 @@ module _ (c : Content) (h : sizesOut c ≡ false) where
   rows-back =
       rw (made-rows c)
       (counts-back (encode c) (c .rows) (c .literals ++ c .pairs) 0 (rowTotal c) rows-whole
-      (λ j. ap (byteAt (encode c)) (omega (arith, length-header c)) ∙ getD-append-add (header c) (body c) j 0))
+      (λ j. ap (byteAt (encode c)) (omega (arith, length-header c)) ∙ getD-append-add (header c) (parts c) j 0))
 
   content-back : contentOf (encode c) ≡ c
   unfolding contentOf

@@ -47,11 +47,11 @@ unfoldable pub header : Content → List ℕ
 header c = twoBytes (headerFields (c .atoms) (rowTotal c) (length (c .literals)) (pairTotal c))
 
 -- the page: header, rows, literals, pairs
-abbrev pub body : Content → List ℕ
-body c = fourBytes (c .rows) ++ (c .literals ++ c .pairs)
+abbrev pub parts : Content → List ℕ
+parts c = fourBytes (c .rows) ++ (c .literals ++ c .pairs)
 
 unfoldable pub encode : Content → List ℕ
-encode c = header c ++ body c
+encode c = header c ++ parts c
 
 -- ---- from a page to its content
 -- the counts of n rows from row r on

@@ -85,7 +85,7 @@ fn put_rows(rows: &[u8], out: &mut [u8])
 
 // Stores a part as it is, from place `at` on.
 fn put(part: &[u8], at: usize, out: &mut [u8])
-    requires { ⌜ (at + length (now part) ≤ length (now out)) ⌝ }
+    requires { ⌜ at + length (now part) ≤ length (now out) ⌝ }
     ensures { λ r. ⌜ now (out .exit) ≡ sets (now (out .entry)) at (now (part .entry)) ⌝ }
 {
     let mut i = 0;
