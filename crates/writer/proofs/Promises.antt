@@ -7,6 +7,7 @@ use native.Mathlib.Omega.{arith}
 use lib.ListN.{length, take, drop}
 use borrow.Author.Tests.{le-ltb}
 use Rattle.lpod.specs.Lists.{every}
+use Rattle.page.specs.Program.{program}
 use Rattle.page.specs.Refusals.{firstThat, numbered, pageNo}
 use Rattle.page.proofs.Refusals.{given-append}
 use Rattle.page.proofs.RowSteps.{Bytes}
@@ -14,9 +15,11 @@ use Rattle.engine.specs.Entries.{over, stored}
 use Rattle.engine.proofs.Refused.{refused-later}
 use Rattle.engine.proofs.Given.{Given, given, numbered-append, entries-first, entries-later, where-refused, where-accepted}
 use Rattle.writer.specs.Content.{Content, encode, contentOf}
+use Rattle.writer.specs.Meaning.{programGiven}
 use Rattle.writer.specs.Writes.{contentRefusals, contentNo, roomRefusals, writeRefusals, writeNo, written, WriteSays}
 use Rattle.writer.specs.declared.Written.{Written}
 use Rattle.writer.proofs.Encoding.{content-numbered, valid-sizes, page-most, Makes, made-accepted, accepted-made}
+use Rattle.writer.proofs.Meaning.{means-own}
 
 module _ (c : Content) (out : List ℕ) (r : Written) (after : List ℕ) (says : WriteSays c out r after) where
   number : r .no ≡ writeNo c (length out)
@@ -67,6 +70,10 @@ module _ (c : Content) (out : List ℕ) (r : Written) (after : List ℕ) (says :
     -- it reads back as what was given
     pub reads-back : contentOf (take (r .length) after) ≡ c
     reads-back = made-accepted _ c makes .1
+
+    -- and means what was given: the engine reads these rules and pairs from it
+    pub means-given : (flags : ℕ) → program (take (r .length) after) flags ≡ programGiven c flags
+    means-given flags = means-own _ writes-accepted flags ∙ ap (λ (x : Content). programGiven x flags) reads-back
 
     -- bytes after the page keep their content
     pub rest-kept : drop (r .length) after ≡ drop (r .length) out
