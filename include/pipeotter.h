@@ -3,7 +3,7 @@
 
    Link with libcapi.a (x86-64; `rt staticlib capi` writes it). It wants memcpy and memset from you, and a compiler for C99
    or C++11. The calls keep nothing between them, take no heap, and touch only what you lend. List, best, pick and display
-   need up to 9.2 KiB of stack, the split test 5.6 KiB, the writer 1.3 KiB, every other call less than 1 KiB. A call that
+   need up to 9.2 KiB of stack, the split test 5.6 KiB, the writer 1.2 KiB, every other call less than 1 KiB. A call that
    takes a page reads it some three times, however many sets it tries (docs/SPEED.md, which also tells of time). The calls
    may be made from several threads at once if no lent slice is written by two.
 
@@ -163,20 +163,24 @@ static inline float pipeotter_shown_reading(uint64_t result) {
 }
 
 /* Makes a page from its content. The header and the fourth byte of each row are the writer's own.
-   atoms     A: any number may be given
-   rows      three bytes a row: how many atoms its head, its positive and its negative body have. R is rows_length / 3
+   atoms     A, 1 to 16; every other number is refused by 3
+   rows      three bytes a row: how many atoms its head has (0 to 6; the alternatives, best first), its positive body
+             (0 to 8; "if") and its negative body (0 to 8; "if not"). R is rows_length / 3
    literals  one atom a byte, row after row: the head, then the positive, then the negative body. L is literals_length
    pairs     two atoms a pair, one a byte. Q is pairs_length / 2
-   Each of the three may be empty, but never null. They are not changed; `buffer` must not overlap them.
+   Each of the three may be empty: pass any address and 0, but never null. They are not changed, and may overlap one
+   another; `buffer` must not overlap them.
    Value: the page's length, 18 + 4R + L + 2Q. The page stands in buffer[0] up to buffer[length - 1]; every later byte is
    unchanged. No call refuses this page by 1 to 8, and it reads back as what was given. An accepted page that is read and
    written again has the same bytes.
    Refusals, in order: 3 (A, R, L or Q; or rows_length no multiple of 3, or pairs_length odd), 5, 6, 7, 8, 11 (room below
-   the length; PIPEOTTER_LONGEST_PAGE is always enough). A refused call stores nothing, not even a part. */
+   the length; PIPEOTTER_LONGEST_PAGE is always enough). A refused call stores nothing, not even a part.
+   With room 0 the call only checks: 11 then says that the content is fine.
+   There is no call that takes a page apart; docs/PAGE.md says where its parts stand. */
 uint32_t pipeotter_write(size_t atoms, const uint8_t *rows, size_t rows_length, const uint8_t *literals,
                          size_t literals_length, const uint8_t *pairs, size_t pairs_length, uint8_t *buffer, size_t room);
 
-/* The letter that a panel shows for a refusal number: 'P' page fault (1 to 8), 'C' call fault (9, 11, 12),
+/* The letter that a panel shows for a refusal number: 'P' fault of the page, or of what it would be made of (1 to 8), 'C' call fault (9, 11, 12),
    'F' finding (10, 13), ' ' for 0 and every other number. Never refused. */
 uint8_t pipeotter_letter(uint16_t number);
 

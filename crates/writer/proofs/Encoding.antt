@@ -93,7 +93,7 @@ module _ (c : Content) (h : sizesOut c ≡ false) where
       (counts-back (encode c) (c .rows) (c .literals ++ c .pairs) 0 (rowTotal c) rows-whole
       (λ j. ap (byteAt (encode c)) (omega (arith, length-header c)) ∙ getD-append-add (header c) (parts c) j 0))
 
-  content-back : contentOf (encode c) ≡ c
+  pub content-back : contentOf (encode c) ≡ c
   unfolding contentOf
   content-back = rw (made-atoms c, rows-back, literals-back, pairs-back)
 

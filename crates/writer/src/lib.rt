@@ -1,5 +1,5 @@
-// Writes pages: from a number of atoms, rows of three counts, literals and pairs to the bytes of the page, in lent memory. Nothing is stored before
-// the whole content is accepted and there is room: the page is first made in memory of this call, and read as any page is.
+// Writes pages: from a number of atoms, rows of three counts, literals and pairs to the bytes of the page, in lent memory. The page is made in memory
+// of this call and checked as any page is; only where it is accepted, and there is room for it, is it copied to the lent slice.
 ghost use mathlib.Core.Path.{_≡_};
 ghost use mathlib.Core.Bool.{false};
 ghost use Prim.Native.Nat.{_+_, _*_, _/_, _≤_, _<_};
@@ -125,32 +125,24 @@ fn sizes_out(atoms: usize, rows: &[u8], literals: &[u8], pairs: &[u8]) -> bool
     !whole | out
 }
 
-// The number that the content is refused with: 3, or what its page is refused with.
-fn content_no(atoms: usize, rows: &[u8], literals: &[u8], pairs: &[u8]) -> u16
-    ensures { λ r. ⌜ r ≡ means.contentNo (content atoms (now (rows .entry)) (now (literals .entry)) (now (pairs .entry))) ⌝ }
-{
-    if sizes_out(atoms, rows, literals, pairs) {
-        return 3;
-    }
-    let end = page_length(atoms, rows, literals, pairs);
-    let mut page = [0u8; 866];
-    fill(atoms, rows, literals, pairs, &mut page[..end]);
-    accept::page_no(&page[..end])
-}
-
 // Makes the page at the start of the lent slice; later bytes keep their content. Refusals 3, 5, 6, 7, 8, then 11 for a slice that is too short.
 pub fn write(atoms: usize, rows: &[u8], literals: &[u8], pairs: &[u8], buffer: &mut [u8]) -> Written
     ensures { λ r. ⌜ means.WriteSays (content atoms (now (rows .entry)) (now (literals .entry)) (now (pairs .entry))) (now (buffer .entry)) r (now (buffer .exit)) ⌝ }
 {
-    let no = content_no(atoms, rows, literals, pairs);
+    if sizes_out(atoms, rows, literals, pairs) {
+        return Written { no: 3, length: 0 };
+    }
+    let end = page_length(atoms, rows, literals, pairs);
+    let mut page = [0u8; 866];
+    fill(atoms, rows, literals, pairs, &mut page[..end]);
+    let no = accept::page_no(&page[..end]);
     if no != 0 {
         return Written { no, length: 0 };
     }
-    let end = page_length(atoms, rows, literals, pairs);
     if buffer.len() < end {
         return Written { no: 11, length: 0 };
     }
-    fill(atoms, rows, literals, pairs, &mut *buffer);
+    put(&page[..end], 0, &mut *buffer);
     Written {
         no: 0,
         length: end as u16,
