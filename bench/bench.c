@@ -84,8 +84,9 @@ static double timed(int which, int what, long times) {
     return (now() - start) / (double)times;
 }
 
-/* The first turn compares the answers, a list's entries and the page that is written too. Then turns that are long enough for the clock, the more
-   the cheaper they are; a call of a second or more has no further turn. Answers 0 where the answers differ. */
+/* The first turn compares the answers, a list's entries and the page that is written too. Then turns that are long
+   enough for the clock, the more the cheaper they are; a call of a second or more has no further turn. Answers 0 where
+   the answers differ. */
 static int measure(int what, double *least) {
     double start = now(), middle;
     uint64_t answer = call(0, what), other;

@@ -180,8 +180,8 @@ static inline float pipeotter_shown_reading(uint64_t result) {
 uint32_t pipeotter_write(size_t atoms, const uint8_t *rows, size_t rows_length, const uint8_t *literals,
                          size_t literals_length, const uint8_t *pairs, size_t pairs_length, uint8_t *buffer, size_t room);
 
-/* The letter that a panel shows for a refusal number: 'P' fault of the page, or of what it would be made of (1 to 8), 'C' call fault (9, 11, 12),
-   'F' finding (10, 13), ' ' for 0 and every other number. Never refused. */
+/* The letter that a panel shows for a refusal number: 'P' fault of the page, or of what it would be made of (1 to 8),
+   'C' call fault (9, 11, 12), 'F' finding (10, 13), ' ' for 0 and every other number. Never refused. */
 uint8_t pipeotter_letter(uint16_t number);
 
 #ifdef __cplusplus

@@ -21,8 +21,9 @@ int main(void) {
     uint16_t length = make(2);
     printf("%u bytes:", length);
     for (uint16_t i = 0; i < length; i++) printf(" %02x", page[i]);
+    printf("\n");
     uint32_t pick = pipeotter_pick(page, length, 0);
-    if (PIPEOTTER_NUMBER(pick) == PIPEOTTER_ACCEPTED) printf("\npick %u\n", PIPEOTTER_VALUE(pick));
+    if (PIPEOTTER_NUMBER(pick) == PIPEOTTER_ACCEPTED) printf("pick %u\n", PIPEOTTER_VALUE(pick));
     make(1); /* literals and pairs name atom 1, which is not below 1 */
     return 0;
 }

@@ -44,28 +44,22 @@ module _ (c : Content) (h : sizesOut c ≡ false) where
   sizes-in = counts-in _ _ _ _ counts-fine
 
   -- whole rows, and whole pairs
-  rows-whole : length (c .rows) ≡ 3 * rowTotal c
+  whole : (length (c .rows) ≡ 3 * rowTotal c) × (length (c .pairs) ≡ 2 * pairTotal c)
   unfolding ragged
-  rows-whole =
+  whole =
       let r = eqb (length (c .rows) % 3) 0 in
       let q = eqb (length (c .pairs) % 2) 0 in
-      omega (arith, eqb-true (length (c .rows) % 3) 0 (yes-true r (and-l r q (true-yes (not-false (r && q) (neither .0))))))
-
-  pairs-whole : length (c .pairs) ≡ 2 * pairTotal c
-  unfolding ragged
-  pairs-whole =
-      let r = eqb (length (c .rows) % 3) 0 in
-      let q = eqb (length (c .pairs) % 2) 0 in
-      omega (arith, eqb-true (length (c .pairs) % 2) 0 (yes-true q (and-r r q (true-yes (not-false (r && q) (neither .0))))))
+      let t = true-yes (not-false (r && q) (neither .0)) in
+      (omega (arith, eqb-true (length (c .rows) % 3) 0 (yes-true r (and-l r q t))), omega (arith, eqb-true (length (c .pairs) % 2) 0 (yes-true q (and-r r q t))))
 
   -- no page is longer than 866 bytes
   pub page-most : length (encode c) ≤ 866
-  page-most = let i = sizes-in in omega (arith, length-page c, pairs-whole, i .rows-most, i .literals-most, i .pairs-most)
+  page-most = let i = sizes-in in omega (arith, length-page c, whole .1, i .rows-most, i .literals-most, i .pairs-most)
 
   -- the page passes 1 to 4, so its number is the content's
   pub same-number : pageNo (encode c) ≡ contentNo c
   unfolding pageNo pageRefusals contentNo contentRefusals firstThat
-  same-number = rw (made-long c, made-form c, made-counts c, counts-fine, made-placed c pairs-whole, h)
+  same-number = rw (made-long c, made-form c, made-counts c, counts-fine, made-placed c (whole .1), h)
 
   -- what is read from the page is the content
   literals-back : literals (encode c) (literalsAt (encode c)) (literalCount (encode c)) ≡ c .literals
@@ -79,7 +73,7 @@ module _ (c : Content) (h : sizesOut c ≡ false) where
   pairs-back : literals (encode c) (pairsAt (encode c)) (2 * pairCount (encode c)) ≡ c .pairs
   unfolding encode
   pairs-back =
-      rw (made-pairs-at c, made-pairs c, ← pairs-whole)
+      rw (made-pairs-at c, made-pairs c, ← whole .1)
       (run-past (header c) (parts c) (4 * rowTotal c + length (c .literals)) (length (c .pairs)) (18 + 4 * rowTotal c + length (c .literals))
       (omega (arith, length-header c))
       ∙ run-past (fourBytes (c .rows)) (c .literals ++ c .pairs) (length (c .literals)) (length (c .pairs)) (4 * rowTotal c + length (c .literals)) (omega (arith, length-rows (c .rows)))
@@ -90,7 +84,7 @@ module _ (c : Content) (h : sizesOut c ≡ false) where
   unfolding encode
   rows-back =
       rw (made-rows c)
-      (counts-back (encode c) (c .rows) (c .literals ++ c .pairs) 0 (rowTotal c) rows-whole
+      (counts-back (encode c) (c .rows) (c .literals ++ c .pairs) 0 (rowTotal c) (whole .0)
       (λ j. ap (byteAt (encode c)) (omega (arith, length-header c)) ∙ getD-append-add (header c) (parts c) j 0))
 
   pub content-back : contentOf (encode c) ≡ c
@@ -120,15 +114,16 @@ module _ (page : List ℕ) (bytes : Bytes page) (h : pageNo page ≡ 0) where
   unfolding contentOf
   own-pairs = length-literals page (pairsAt page) (2 * pairCount page)
 
+  own-pair-total : pairTotal (contentOf page) ≡ pairCount page
+  own-pair-total = omega (arith, own-pairs)
+
   own-fields : wordsFrom page 0 9 ≡ headerFields (atomCount page) (rowCount page) (literalCount page) (pairCount page)
   unfolding wordsFrom headerFields rowsAt literalsAt pairsAt endOf
   own-fields = let p = placed page h in rw (form-one page h, p .rows-offset, p .literals-offset, p .pairs-offset, p .end-is)
 
   own-header : literals page 0 18 ≡ header (contentOf page)
   unfolding header contentOf
-  own-header =
-      let q : pairTotal (contentOf page) ≡ pairCount page = omega (arith, own-pairs) in
-      words-run page bytes 0 9 ∙ rw (own-fields, own-rows, own-literals, q)
+  own-header = words-run page bytes 0 9 ∙ rw (own-fields, own-rows, own-literals, own-pair-total)
 
   -- every byte is told by the content
   made-again : encode (contentOf page) ≡ page
@@ -151,13 +146,12 @@ module _ (page : List ℕ) (bytes : Bytes page) (h : pageNo page ≡ 0) where
   unfolding sizesOut ragged pageNo pageRefusals outOfRange contentOf
   own-sizes =
       let c = contentOf page in
-      let q : pairTotal c ≡ pairCount page = omega (arith, own-pairs) in
       rw (
         eq-eqb (length (c .rows) % 3) 0 (omega (arith, length-counts page 0 (rowCount page))),
         eq-eqb (length (c .pairs) % 2) 0 (omega (arith, own-pairs)),
         own-rows,
         own-literals,
-        q,
+        own-pair-total,
         given-denied (pageRefusals page) (page-numbered page) h .1 .1 .0,
       )
 

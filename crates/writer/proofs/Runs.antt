@@ -1,5 +1,5 @@
--- Runs of bytes on a page: a run in the part where it stands, a run cut in two, and a page as the run of all its bytes. By induction on the run.
--- Assumes nothing.
+-- Runs of bytes on a page: a run in the part where it stands, a run cut in two, and a page as the run of all its bytes. A run is `literals`, whatever
+-- stands there, atoms or not. By induction on the run. Assumes nothing.
 use mathlib.Core.Path.{_≡_, refl, sym, ap, _∙_}
 use mathlib.Core.List.{List, [], _∷_, _++_, append-nil}
 use Prim.Native.Nat.{ℕ, zero, suc, _+_, _*_, _/_, _%_, _<_}
