@@ -17,8 +17,9 @@ struct timespec {
 int clock_gettime(int, struct timespec *);
 
 /* The same calls of two solvers. */
+typedef uint32_t (*Test)(const uint8_t *, size_t, uint16_t, uint16_t);
 typedef struct {
-    uint32_t (*test)(const uint8_t *, size_t, uint16_t, uint16_t);
+    Test test, rounds;
     uint32_t (*list)(const uint8_t *, size_t, uint16_t, uint16_t *, size_t);
     uint32_t (*best)(const uint8_t *, size_t, uint16_t, uint16_t *, size_t);
     uint32_t (*pick)(const uint8_t *, size_t, uint16_t);
@@ -26,8 +27,9 @@ typedef struct {
     uint32_t (*write)(size_t, const uint8_t *, size_t, const uint8_t *, size_t, const uint8_t *, size_t, uint8_t *, size_t);
 } Solver;
 static const Solver solver[2] = {
-    {pipeotter_reduct_test, pipeotter_list, pipeotter_best, pipeotter_pick, pipeotter_display, pipeotter_write},
-    {plain_reduct_test, plain_list, plain_best, plain_pick, plain_display, plain_write}};
+    {pipeotter_reduct_test, pipeotter_rounds, pipeotter_list, pipeotter_best, pipeotter_pick, pipeotter_display,
+     pipeotter_write},
+    {plain_reduct_test, plain_rounds, plain_list, plain_best, plain_pick, plain_display, plain_write}};
 
 static uint8_t page[2000];
 static size_t length;
@@ -36,15 +38,15 @@ static uint16_t flags, sets[2][65536];
 /* What the writer is given: the page's own content. The counts of its rows stand apart, three a row. */
 static uint8_t counts[3 * PIPEOTTER_MOST_ROWS], written[2][PIPEOTTER_LONGEST_PAGE];
 
-enum { LIST, TEST, BEST, PICK, DISPLAY, WRITE, CALLS }; /* in this order: the tests take their sets from the list */
+enum { LIST, TEST, ROUNDS, BEST, PICK, DISPLAY, WRITE, CALLS }; /* in this order: the tests take their sets from the list */
 
-/* Tests 64 sets: answer sets spread over the list, which is asked first, and others. */
+/* Asks of 64 sets: answer sets spread over the list, which is asked first, and others. */
 static uint32_t listed;
-static uint32_t tests(const Solver *s) {
+static uint32_t tests(Test test) {
     uint32_t sum = 0, all = 1u << page[2];
     for (uint32_t i = 0; i < 64; i++) {
         uint16_t set = i % 2 && listed ? sets[0][(i * 977) % listed] : (uint16_t)((flags | i * 40503u) % all);
-        sum = sum * 31 + s->test(page, length, flags, set);
+        sum = sum * 31 + test(page, length, flags, set);
     }
     return sum;
 }
@@ -60,7 +62,8 @@ static uint32_t write_again(int which) {
 static uint64_t call(int which, int what) {
     const Solver *s = &solver[which];
     switch (what) {
-    case TEST: return tests(s);
+    case TEST: return tests(s->test);
+    case ROUNDS: return tests(s->rounds);
     case LIST: return s->list(page, length, flags, sets[which], 65536);
     case BEST: return s->best(page, length, flags, sets[which], 65536);
     case PICK: return s->pick(page, length, flags);
@@ -124,7 +127,8 @@ static int load(const char *path) {
 
 int main(int words, char **word) {
     int differ = 0;
-    printf("| page | sets | test | list | best | pick | display | write | pick / list, engine | pick / list, plain C |\n|---|---|---|---|---|---|---|---|---|---|\n");
+    printf("| page | sets | test | rounds | list | best | pick | display | write ");
+    printf("| pick / list, engine | pick / list, plain C |\n|---|---|---|---|---|---|---|---|---|---|---|\n");
     for (int i = 1; i + 2 < words; i += 3) {
         double least[CALLS][2];
         flags = (uint16_t)strtoul(word[i + 2], 0, 0);
@@ -140,7 +144,7 @@ int main(int words, char **word) {
             differ = 1;
             continue;
         }
-        static const int column[CALLS] = {TEST, LIST, BEST, PICK, DISPLAY, WRITE};
+        static const int column[CALLS] = {TEST, ROUNDS, LIST, BEST, PICK, DISPLAY, WRITE};
         printf("| %s | %u |", word[i], listed);
         for (int c = 0; c < CALLS; c++) printf(" %.2f |", least[column[c]][0] / least[column[c]][1]);
         printf(" %.2f | %.2f |\n", least[PICK][0] / least[LIST][0], least[PICK][1] / least[LIST][1]);

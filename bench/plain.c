@@ -170,17 +170,33 @@ static uint16_t reduct_round(const Program *p, uint16_t set, uint16_t now) {
     return next;
 }
 
+/* Makes rounds from `*now` on, which they change, and answers how many added something. They add atoms of the set alone:
+   the end is the set, or a round that adds nothing. */
+static unsigned rounds_from(const Program *p, uint16_t set, uint16_t *now) {
+    unsigned count = 0;
+    while (*now != set) {
+        uint16_t next = reduct_round(p, set, *now);
+        if (next == *now) break;
+        *now = next;
+        count++;
+    }
+    return count;
+}
+
 static int is_answer(const Program *p, uint16_t set) {
     if (!no_pair(p, set)) return 0;
     if (p->flags & ~set) return 0;
     if (!satisfies(p, set)) return 0;
     uint16_t now = p->flags;
-    while (now != set) {
-        uint16_t next = reduct_round(p, set, now);
-        if (next == now) return 0;
-        now = next;
-    }
-    return 1;
+    rounds_from(p, set, &now);
+    return now == set;
+}
+
+/* Here the flags are not there from the start, as above: those in the set come in with the first round, beside the rows
+   that need nothing. */
+static unsigned count_rounds(const Program *p, uint16_t set) {
+    uint16_t now = (uint16_t)(reduct_round(p, set, 0) | (p->flags & set));
+    return now ? 1 + rounds_from(p, set, &now) : 0;
 }
 
 /* ---- here-and-there, every part of the set in turn ---- */
@@ -389,6 +405,14 @@ uint32_t plain_split_test(const uint8_t *page, size_t length, uint16_t flags, ui
     if (stray(page, set)) return refused(9);
     if (split_programs(&p) > 4096) return refused(12);
     return no_pair(&p, set) ? count_splits(&p, set, p.rows, option) : 0;
+}
+
+uint32_t plain_rounds(const uint8_t *page, size_t length, uint16_t flags, uint16_t set) {
+    Program p;
+    int fault = open(&p, page, length, flags);
+    if (fault) return refused(fault);
+    if (stray(page, set)) return refused(9);
+    return count_rounds(&p, set);
 }
 
 uint32_t plain_list(const uint8_t *page, size_t length, uint16_t flags, uint16_t *sets, size_t room) {

@@ -7,6 +7,7 @@ uint32_t plain_pick(const uint8_t *page, size_t length, uint16_t flags);
 uint32_t plain_reduct_test(const uint8_t *page, size_t length, uint16_t flags, uint16_t set);
 uint32_t plain_here_there_test(const uint8_t *page, size_t length, uint16_t flags, uint16_t set);
 uint32_t plain_split_test(const uint8_t *page, size_t length, uint16_t flags, uint16_t set);
+uint32_t plain_rounds(const uint8_t *page, size_t length, uint16_t flags, uint16_t set);
 uint32_t plain_list(const uint8_t *page, size_t length, uint16_t flags, uint16_t *sets, size_t room);
 uint32_t plain_best(const uint8_t *page, size_t length, uint16_t flags, uint16_t *sets, size_t room);
 uint32_t plain_degrees(const uint8_t *page, size_t length, uint16_t flags, uint16_t set, uint8_t *degrees, size_t room);

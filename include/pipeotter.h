@@ -1,5 +1,5 @@
-/* Pipeotter for C: which sets of atoms does a page of ranked rules allow, which of them is best, and what a display shows
-   by it. One more call makes a page from its parts.
+/* Pipeotter for C: which sets of atoms does a page of ranked rules allow, by how long a chain of reasons, which of them is
+   best, and what a display shows by it. One more call makes a page from its parts.
 
    Link with libcapi.a (x86-64; `rt staticlib capi` writes it). It wants memcpy and memset from you, and a compiler for C99
    or C++11. The calls keep nothing between them, take no heap, and touch only what you lend. List, best, pick and display
@@ -117,6 +117,16 @@ uint32_t pipeotter_here_there_test(const uint8_t *page, size_t length, uint16_t 
 /* Value: in how many split programs `set` is an answer set, 0 to 4,096; yes where it is above 0.
    Refusals, in order: 1 to 8, 9 (flags or set), 12. */
 uint32_t pipeotter_split_test(const uint8_t *page, size_t length, uint16_t flags, uint16_t set);
+
+/* How long is the chain of reasons behind `set`? Its atoms come in by rounds, starting from none. A row whose negative
+   body has no atom in the set brings in the first of its head atoms that is in the set, one round after the last atom of
+   its positive body came in, and in round 1 if that body is empty. A raised flag comes in with round 1, if the set has it.
+   Any set will do. Of an answer set every atom comes in; of another some may never, and those count for nothing. Pairs
+   change nothing, nor do rows that the set breaks: the value does not say whether the set is allowed.
+   Value: in how many rounds something comes in, 0 to 16. It is never above the number of atoms in the set, nor above R
+   and the number of raised flags together.
+   Refusals, in order: 1 to 8, 9 (flags or set). */
+uint32_t pipeotter_rounds(const uint8_t *page, size_t length, uint16_t flags, uint16_t set);
 
 /* All answer sets, or only the best ones, rising, each once.
    Value: the count, which may be 0. The sets stand in sets[0] up to sets[count - 1]; every later entry is unchanged.

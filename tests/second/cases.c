@@ -40,6 +40,28 @@ const Case screens[SCREENS] = {
     {3, "a<-a", "", 0, "10 0"},              /* no answer set comes before too few atoms */
 };
 
+/* Each atom but the first needs the one before it. */
+#define UPWARD "b<a;c<b;d<c;e<d;f<e;g<f;h<g;i<h;j<i;k<j;l<k;m<l;n<m;o<n;p<o"
+#define DOWNWARD "p<o;o<n;n<m;m<l;l<k;k<j;j<i;i<h;h<g;g<f;f<e;e<d;d<c;c<b;b<a"
+
+const Case chains[CHAINS] = {
+    {3, "a;b<a;c<b", "", 0, "7 3, 1 1, 0 0, 6 0, 5 1"},
+    {3, "c<b;b<a;a", "", 0, "7 3, 1 1, 0 0, 6 0, 5 1"},       /* the order of the rows changes nothing */
+    {1, "", "", 1, "1 1, 0 0"},                               /* a raised flag comes in with the first round */
+    {3, "c<b;b", "", 1, "7 2, 1 1, 6 2"},                     /* and does not have it for itself */
+    {4, "a;b<a;c<b;d<c;d<a", "", 0, "15 3, 7 3, 9 2"},        /* two ways to d, the shorter one counts */
+    {4, "a;b;c<b;d<ac", "", 0, "15 3, 13 1, 14 2"},           /* two reasons for d, the later one counts */
+    {3, "b<c;c<b;a", "", 0, "7 1, 6 0"},                      /* what leans on itself never comes in */
+    {3, "ab;c<b", "", 0, "7 1, 6 2, 5 1"},                    /* a row gives its first atom in the set alone */
+    {3, "a<-b;b<a;c<-a", "", 0, "1 1, 3 0, 2 0, 4 1, 6 1"},   /* negative bodies are looked up in the set */
+    {3, "a;b<a;c<b", "ac", 0, "7 3"},                         /* a pair changes nothing */
+    {3, "a;b<a;<b;c<-c", "", 0, "3 2, 1 1"},                  /* nor do rows that the set breaks */
+    {16, "a;" UPWARD, "", 0, "65535 16, 32767 15, 65279 8, 65534 0"},
+    {16, DOWNWARD ";a", "", 0, "65535 16, 32767 15, 65279 8, 65534 0"},
+    {16, DOWNWARD, "", 1, "65535 16, 32767 15, 65534 0"},     /* as many rounds as rows and flags together */
+    {16, UPWARD, "", 257, "65535 8, 65279 8, 65280 8"},       /* two chains side by side, each from a flag */
+};
+
 static void put_field(Page *page, size_t at, size_t value) {
     page->byte[at] = (uint8_t)value;
     page->byte[at + 1] = (uint8_t)(value >> 8);

@@ -17,5 +17,9 @@ extern const Case cases[CASES];
 /* Pages for the display: here `sets` is the number and the value that ordinary readings get. */
 enum { SCREENS = 14 };
 extern const Case screens[SCREENS];
+
+/* Pages for the rounds: here `sets` has some sets, each with its count of rounds. */
+enum { CHAINS = 15 };
+extern const Case chains[CHAINS];
 void case_page(Page *page, const Case *c);
 #endif

@@ -17,8 +17,8 @@ int mprotect(void *, size_t, int);
 typedef uint32_t (*Test)(const uint8_t *, size_t, uint16_t, uint16_t);
 typedef uint32_t (*List)(const uint8_t *, size_t, uint16_t, uint16_t *, size_t);
 
-/* Pages that do not depend on the seed: those with known results, those for the display, those made by hand. */
-enum { FIXED = CASES + SCREENS + HAND_MADE };
+/* Pages that do not depend on the seed: those with known results, for the display and for the rounds, those made by hand. */
+enum { FIXED = CASES + SCREENS + CHAINS + HAND_MADE };
 
 static Random rng;
 static Random dice; /* the writer's: what is asked of it changes no page */
@@ -35,7 +35,7 @@ static struct {
     long wrong;
 } page;
 
-static long calls, shown, shown_as[4], picks_left_out, bests_left_out, refusals[16], writes[16], sets_seen;
+static long calls, shown, shown_as[4], rounds_seen[17], picks_left_out, bests_left_out, refusals[16], writes[16], sets_seen;
 
 /* ---- reports ---- */
 
@@ -119,6 +119,17 @@ static void compare_result(const char *call, uint32_t got, Answer want, uint16_t
 
 static void ask_test(const char *call, Test test, uint16_t set, Answer want) {
     compare_result(call, test(page.lent, page.length, page.flags, set), want, set, 0, 0);
+}
+
+/* Each round brings in an atom of the set, and by a rule that brought in nothing before. The count that the engine is held
+   to must keep within both bounds. */
+static void ask_rounds(uint16_t set) {
+    Answer want = second_rounds(&solved, set);
+    ask_test("rounds", pipeotter_rounds, set, want);
+    if (want.number) return;
+    rounds_seen[want.value]++;
+    if (((int)want.value > __builtin_popcount(set) || (int)want.value > solved.rules) && disagrees("none"))
+        printf("\n  the second solver counts more rounds than there are atoms or rules: set 0x%04x, %u\n", set, want.value);
 }
 
 static void ask_pick(void) {
@@ -365,6 +376,7 @@ enum { DEAR = 50000, TOO_DEAR = 50000000 };
 static void ask_about_set(uint16_t set) {
     long rules = solved.rules + 1, parts = 1L << __builtin_popcount(set);
     ask_test("reduct_test", pipeotter_reduct_test, set, second_test(&solved, set));
+    ask_rounds(set);
     if (affordable(parts * rules, 20000)) ask_test("here_there_test", pipeotter_here_there_test, set, second_test(&solved, set));
     if (solved.split_number > 4096 || page.number <= FIXED || affordable(solved.split_number * rules, 3000))
         ask_test("split_test", pipeotter_split_test, set, second_split(&solved, set));
@@ -390,6 +402,7 @@ static void ask_stray_sets(void) {
         uint16_t good = solved.sets ? any_answer() : (uint16_t)any_set();
         uint16_t set = (uint16_t)(good | 1u << (i == 0 ? solved.atoms : i == 1 ? 15 : (int)random_below(&rng, 16)));
         ask_test("reduct_test", pipeotter_reduct_test, set, second_test(&solved, set));
+        ask_rounds(set);
         if (set >> solved.atoms) { /* for these two a set that fits may be dear */
             ask_test("here_there_test", pipeotter_here_there_test, set, second_test(&solved, set));
             ask_test("split_test", pipeotter_split_test, set, second_split(&solved, set));
@@ -448,6 +461,7 @@ static void ask_refused(void) {
         ask_test("reduct_test", pipeotter_reduct_test, set, second_test(&solved, set));
         ask_test("here_there_test", pipeotter_here_there_test, set, second_test(&solved, set));
         ask_test("split_test", pipeotter_split_test, set, second_split(&solved, set));
+        ask_rounds(set);
         ask_degrees(set, i ? 40 : 0);
         ask_compare(set, i ? other : set);
         ask_list("list", pipeotter_list, solved.set, i ? 100 : 0, second_list(&solved, i ? 100 : 0));
@@ -539,6 +553,27 @@ static void try_screen(const Case *c) {
     ask_writes();
 }
 
+/* A page whose counts of rounds are known, for some sets. Each of these is asked, and each with one atom more or less. */
+static void try_chain(const Case *c) {
+    Page made;
+    case_page(&made, c);
+    page.number++;
+    page.wrong = 0;
+    lend_page(made.byte, made.length);
+    ask_all(c->flags);
+    for (const char *text = c->sets; *text;) {
+        char *end;
+        uint16_t set = (uint16_t)strtoul(text, &end, 10);
+        unsigned long count = strtoul(end + 1, &end, 10);
+        if (second_rounds(&solved, set).value != count && disagrees("none"))
+            printf("\n  the second solver does not count the rounds that are known: set 0x%04x, %lu\n", set, count);
+        ask_rounds(set);
+        for (int atom = 0; atom < solved.atoms; atom++) ask_rounds((uint16_t)(set ^ 1u << atom));
+        text = *end ? end + 1 : end;
+    }
+    ask_writes();
+}
+
 /* Lent 65,536 bytes more than the page has: 16 bits of its length are right, and it must be refused all the same. */
 static void try_too_long(const Page *made) {
     static uint8_t memory[65536 + sizeof made->byte];
@@ -571,8 +606,9 @@ int main(int words, char **word) {
     for (unsigned long i = 0; i < FIXED + count && failed < stop; i++) {
         if (i < CASES) try_case(&cases[i]);
         else if (i < CASES + SCREENS) try_screen(&screens[i - CASES]);
+        else if (i < CASES + SCREENS + CHAINS) try_chain(&chains[i - CASES - SCREENS]);
         else if (i < FIXED) {
-            hand_made_page(&made, (int)(i - CASES - SCREENS));
+            hand_made_page(&made, (int)(i - CASES - SCREENS - CHAINS));
             try_page(made.byte, made.length);
         } else {
             if (one_in(&rng, 3)) damage(&made, &rng);
@@ -583,13 +619,16 @@ int main(int words, char **word) {
         *(page.wrong ? &failed : &passed) += 1;
     }
     if (failed >= stop) printf("stopped at page %ld\n", page.number);
-    printf("seed %lu: the letters, %d pages with known results, %d for the display, %d made by hand, %lu generated; %ld calls compared, %ld answer sets listed\n",
-           seed, CASES, SCREENS, HAND_MADE, count, calls, sets_seen);
+    printf("seed %lu: the letters, %d pages with known results, %d for the display, %d for the rounds, %d made by hand, ",
+           seed, CASES, SCREENS, CHAINS, HAND_MADE);
+    printf("%lu generated; %ld calls compared, %ld answer sets listed\n", count, calls, sets_seen);
     printf("answers by number:");
     for (int n = 0; n < 16; n++) printf(" %d:%ld", n, refusals[n]);
     printf("\nof these the writer:");
     for (int n = 0; n < 16; n++)
         if (writes[n]) printf(" %d:%ld", n, writes[n]);
+    printf("\nrounds:");
+    for (int n = 0; n < 17; n++) printf(" %d:%ld", n, rounds_seen[n]);
     printf("\ndisplays: no number %ld, live %ld, second %ld, held %ld", shown_as[0], shown_as[1], shown_as[2], shown_as[3]);
     printf("\nnot asked, being too dear: best %ld times, pick %ld times\n%ld passed, %ld failed\n", bests_left_out, picks_left_out, passed, failed);
     fflush(0);

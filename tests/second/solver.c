@@ -8,6 +8,7 @@
             road 3: a search that decides atom after atom, cuts where a row must fail or an atom has lost every
             support, and drops a set in which some atoms only support each other (no reduct, no least model).
             Road 3 runs always. Roads 1 and 2 run too where the page is small enough, and must agree with it.
+   Rounds   none are made: each atom gets a height, one above its reasons, and the greatest height is the count.
    Ranking  the collections of rows by degree are compared as sets of row indexes, to the letter of 000, Definition 6.
             Where there are too many sets for a double loop, degree by degree: only groups with a greatest collection
             stay. Where both can be run they must agree.
@@ -372,6 +373,46 @@ static void search(Solved *s, int open, uint32_t in, uint32_t out) {
     }
 }
 
+/* ---- rounds: the heights of atoms ---- */
+
+enum { NO_HEIGHT = 1000 }; /* above every height */
+
+/* The atom that a rule gives in the reduct of the set, -1 where it gives none. */
+static int given(const Rule *rule, uint32_t set) {
+    for (int k = 0; k < rule->heads && !(rule->negative & set); k++)
+        if (set >> rule->head[k] & 1) return rule->head[k];
+    return -1;
+}
+
+/* The height of the highest of these atoms, 0 where there are none. */
+static int highest(const int *height, uint32_t atoms) {
+    int most = 0;
+    for (int atom = 0; atom < 16; atom++)
+        if (atoms >> atom & 1 && height[atom] > most) most = height[atom];
+    return most;
+}
+
+/* Another road than rounds, as shortest ways are found in a net of roads: an atom stands one above the highest atom in the
+   body of a rule that gives it, and the rule that puts it lowest counts. At first no atom has a height; then rule after
+   rule, in the order of the page, lowers the atom that it gives, until none lowers one. Atoms that only lean on each other
+   never get a height. An atom's height is the round that brings it in, and no height below it is left out. */
+static int greatest_height(const Solved *s, uint32_t set) {
+    int height[16], lowered;
+    uint32_t reached = 0;
+    for (int atom = 0; atom < 16; atom++) height[atom] = NO_HEIGHT;
+    do {
+        lowered = 0;
+        for (int r = 0; r < s->rules; r++) {
+            int atom = given(&s->rule[r], set), above = highest(height, s->rule[r].positive) + 1;
+            if (atom < 0 || above >= height[atom]) continue;
+            height[atom] = above;
+            reached |= 1u << atom;
+            lowered = 1;
+        }
+    } while (lowered);
+    return highest(height, reached);
+}
+
 /* ---- ranking ---- */
 
 /* 1 where the body does not hold, otherwise the place of the first head atom in the set; 0 cannot be in an answer set. */
@@ -521,6 +562,13 @@ Answer second_split(const Solved *s, uint16_t set) {
     unsigned number = first_refusal(s->page_fault, order, holds);
     if (number) return answer(number, 0);
     return answer(0, s->counted ? s->split_count[set] : (unsigned)count_choices(s, set));
+}
+
+Answer second_rounds(const Solved *s, uint16_t set) {
+    static const int order[] = {9, 0};
+    int holds[MOST] = {[9] = strays(s, set)};
+    unsigned number = first_refusal(s->page_fault, order, holds);
+    return answer(number, number ? 0 : (unsigned)greatest_height(s, set));
 }
 
 static Answer listed(const Solved *s, int count, size_t room) {

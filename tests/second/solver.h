@@ -63,6 +63,7 @@ void second_solve(Solved *s, const uint8_t *page, size_t length, uint16_t flags)
 Answer second_pick(const Solved *s);
 Answer second_test(const Solved *s, uint16_t set);
 Answer second_split(const Solved *s, uint16_t set);
+Answer second_rounds(const Solved *s, uint16_t set);
 Answer second_list(const Solved *s, size_t room);
 Answer second_best(const Solved *s, size_t room);
 Answer second_degrees(const Solved *s, uint16_t set, size_t room, uint8_t *degrees);

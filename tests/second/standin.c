@@ -11,6 +11,9 @@ uint32_t pipeotter_here_there_test(const uint8_t *page, size_t length, uint16_t 
 uint32_t pipeotter_split_test(const uint8_t *page, size_t length, uint16_t flags, uint16_t set) {
     return plain_split_test(page, length, flags, set);
 }
+uint32_t pipeotter_rounds(const uint8_t *page, size_t length, uint16_t flags, uint16_t set) {
+    return plain_rounds(page, length, flags, set);
+}
 uint32_t pipeotter_list(const uint8_t *page, size_t length, uint16_t flags, uint16_t *sets, size_t room) {
     return plain_list(page, length, flags, sets, room);
 }

@@ -94,7 +94,7 @@ and-imp true false e t = absurd (false≢true e)
 and-imp false y e t = absurd t
 
 -- two numbers of any width: both are below a power of 2
-lt-pow : (n : ℕ) → n < 2 ^ n
+pub lt-pow : (n : ℕ) → n < 2 ^ n
 lt-pow zero = omega arith
 lt-pow (suc n) = rw (pow-suc 2 n) (let h = lt-pow n in omega arith)
 

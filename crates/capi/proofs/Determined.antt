@@ -6,7 +6,7 @@ use lib.Ieee.{Float}
 use Rattle.page.specs.Letter.{letterOf}
 use Rattle.engine.proofs.Determined.{one-answer}
 use Rattle.writer.specs.Content.{Content}
-use Rattle.capi.specs.Words.{pickWord, reductWord, hereThereWord, splitWord, compareWord, SetsGiven, DegreesGiven, PageGiven, displayWord}
+use Rattle.capi.specs.Words.{pickWord, reductWord, hereThereWord, splitWord, roundsWord, compareWord, SetsGiven, DegreesGiven, PageGiven, displayWord}
 
 pub pipeotter-pick : (page : List ℕ) (flags x y : ℕ) → x ≡ pickWord page flags → y ≡ pickWord page flags → x ≡ y
 pipeotter-pick page flags x y = one-answer
@@ -19,6 +19,9 @@ pipeotter-here-there-test page flags set x y = one-answer
 
 pub pipeotter-split-test : (page : List ℕ) (flags set x y : ℕ) → x ≡ splitWord page flags set → y ≡ splitWord page flags set → x ≡ y
 pipeotter-split-test page flags set x y = one-answer
+
+pub pipeotter-rounds : (page : List ℕ) (flags set x y : ℕ) → x ≡ roundsWord page flags set → y ≡ roundsWord page flags set → x ≡ y
+pipeotter-rounds page flags set x y = one-answer
 
 pub pipeotter-compare : (page : List ℕ) (flags first second x y : ℕ) → x ≡ compareWord page flags first second → y ≡ compareWord page flags first second → x ≡ y
 pipeotter-compare page flags first second x y = one-answer

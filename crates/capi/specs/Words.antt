@@ -12,6 +12,7 @@ use Rattle.page.specs.Fields.{rowCount}
 use Rattle.page.specs.Program.{program}
 use Rattle.routes.specs.Tests.{reductTest, hereThereTest}
 use Rattle.routes.specs.Split.{splitTest}
+use Rattle.routes.specs.Rounds.{roundsTo}
 use Rattle.engine.specs.Entries.{stored}
 use Rattle.engine.specs.Calls.{picked, pickNo, listed, listNo}
 use Rattle.engine.specs.Degrees.{graded, degreesNo, degreesAfter}
@@ -48,6 +49,9 @@ hereThereWord page flags set = let r = hereThereTest page flags set in word (r .
 
 unfoldable pub splitWord : List ℕ → ℕ → ℕ → ℕ
 splitWord page flags set = let r = splitTest page flags set in word (r .no) (r .count)
+
+unfoldable pub roundsWord : List ℕ → ℕ → ℕ → ℕ
+roundsWord page flags set = let r = roundsTo page flags set in word (r .no) (r .count)
 
 unfoldable pub compareWord : List ℕ → ℕ → ℕ → ℕ → ℕ
 compareWord page flags first second =

@@ -31,7 +31,9 @@ use Rattle.page.specs.Refusals.{refuse, firstThat, numbered, pageRefusals, flag
 use Rattle.page.proofs.Refusals.{page-numbered, flag-numbered, test-numbered, first-append, given-append}
 use Rattle.routes.specs.Tests.{verdict, reductTest, hereThereTest, ReductSays, HereThereSays}
 use Rattle.routes.specs.Split.{splitRefusals, splitNo, splitTest}
+use Rattle.routes.specs.Rounds.{roundsWith, roundsTo, RoundsSays}
 use Rattle.routes.specs.declared.Verdict.{Verdict}
+use Rattle.routes.specs.declared.reduct.Counted.{Counted}
 use Rattle.routes.proofs.SplitCounts.{split-says, split-gives}
 use Rattle.engine.specs.Entries.{stored}
 use Rattle.engine.specs.Calls.{listRefusals, listNo, listed, SetsSay, ListSays, BestSays, isEmpty, pickRefusals, pickNo, setOr, picked, PickSays}
@@ -107,6 +109,15 @@ pub demand-1-split : (page : List ℕ) (flags set : ℕ) → Given (splitRefusal
 unfolding splitNo splitRefusals numbered every
 demand-1-split page flags set =
     given (splitRefusals page flags set) _ (numbered-append (testRefusals page flags set) (_ ∷ []) (test-numbered page flags set) tt) (split-gives page flags set)
+
+pub demand-1-rounds : (page : List ℕ) (flags set : ℕ) (r : Counted) → RoundsSays page flags set r
+    → Given (testRefusals page flags set) (r .no) × ((r .no ≡ 0 → ⊥) → r .count ≡ 0)
+unfolding testNo roundsTo roundsWith
+demand-1-rounds page flags set r says =
+    let e : r .no ≡ testNo page flags set = ap (λ (x : Counted). x .no) says in (
+      given (testRefusals page flags set) (r .no) (test-numbered page flags set) e,
+      (λ z. ap (λ (x : Counted). x .count) says ∙ where-refused (testNo page flags set) _ 0 (λ y. z (e ∙ y))),
+    )
 
 -- ==== Demand 2: the sets listed are exactly the answer sets, each once, rising; for every set the other two tests say the same
 

@@ -25,7 +25,9 @@ use Rattle.page.specs.declared.reader.Step.{Step}
 use Rattle.page.proofs.ReaderSteps as reader
 use Rattle.routes.specs.Tests.{ReductSays, HereThereSays}
 use Rattle.routes.specs.Split.{SplitSays}
+use Rattle.routes.specs.Rounds.{RoundsSays}
 use Rattle.routes.specs.declared.Verdict.{Verdict}
+use Rattle.routes.specs.declared.reduct.Counted.{Counted}
 use Rattle.routes.specs.declared.split.Split.{Split}
 use Rattle.words.specs.Coded as coded
 use Rattle.engine.specs.Calls.{SetsSay, ListSays, BestSays, PickSays}
@@ -251,6 +253,9 @@ here-there-test page flags set x y = one-answer
 
 pub split-test : (page : List ℕ) (flags set : ℕ) (x y : Split) → SplitSays page flags set x → SplitSays page flags set y → x ≡ y
 split-test page flags set x y = one-answer
+
+pub rounds : (page : List ℕ) (flags set : ℕ) (x y : Counted) → RoundsSays page flags set x → RoundsSays page flags set y → x ≡ y
+rounds page flags set x y = one-answer
 
 -- ---- the calls over all answer sets: the answer, and the lent slice afterwards
 pub sets-listed : (l page : List ℕ) (flags : ℕ) (out : List ℕ) (x y : Listed) (after later : List ℕ) → SetsSay l page flags out x after → SetsSay l page flags out y later

@@ -16,3 +16,4 @@ pub mod Between
 pub mod KnownPages
 pub mod Firing
 pub mod EmptyAlone
+pub mod Chains

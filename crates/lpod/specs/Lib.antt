@@ -3,6 +3,7 @@ pub mod Rule
 pub mod Satisfied
 pub mod Reduct
 pub mod Least
+pub mod Chain
 pub mod Answer
 pub mod Split
 pub mod HereThere

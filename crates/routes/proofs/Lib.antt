@@ -2,6 +2,7 @@ pub mod Rounds
 pub mod FourTests
 pub mod HeadsHold
 pub mod Verdicts
+pub mod CountedRounds
 pub mod SplitOption
 pub mod SplitRows
 pub mod SplitRound

@@ -1,3 +1,4 @@
 pub mod Tests
 pub mod Split
 pub mod Choice
+pub mod Rounds

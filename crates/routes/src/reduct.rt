@@ -1,11 +1,13 @@
 // Is a set an answer set? By Brewka's reduct: it holds no pair, satisfies every row and every raised flag's row, and the rounds from the
-// empty set come to just this set. Any rows, pairs, flag word and set will do.
+// empty set come to just this set. And how many rounds add something? Any rows, pairs, flag word and set will do.
 ghost use mathlib.Core.Path.{_≡_};
 ghost use Rattle.lpod.specs.Reduct.{reductRow, reduct};
 ghost use Rattle.lpod.specs.Least as means;
+ghost use Rattle.lpod.specs.Chain.{chain};
 ghost use Rattle.lpod.specs.Answer.{answer};
 ghost use Rattle.words.specs.Coded.{ruleIn, rulesIn, rulesWith, programIn};
 ghost use Rattle.routes.specs.Tests.{ReductSays};
+ghost use Rattle.routes.specs.Rounds.{RoundsSays};
 use super::Verdict;
 use page::accept;
 use words::read;
@@ -95,4 +97,43 @@ pub fn reduct_test(page: &[u8], flags: u16, set: u16) -> Verdict
     let pairs = read::pair_words(page);
     let yes = is_answer(&rows[..n], &pairs[..q], flags, set);
     Verdict { no: 0, yes }
+}
+
+// How many rounds from the empty set add something. Each brings in an atom of `set`, so there are no more of them than the set has atoms; after as many
+// the set itself is reached, to which nothing is added.
+fn count_rounds(rows: &[u64], flags: u16, set: u16) -> u32
+    ensures { λ r. ⌜ r ≡ chain (reduct (rulesWith (now (rows .entry)) flags) set) ⌝ }
+{
+    let most = atoms::how_many(set);
+    let mut s = 0;
+    let mut n = 0;
+    while n < most {
+        let t = round(rows, flags, set, s);
+        if t == s {
+            return n;
+        }
+        s = t;
+        n += 1;
+    }
+    n
+}
+
+// What the count of rounds answers.
+pub struct Counted {
+    pub no: u16,
+    pub count: u32,
+}
+
+// How many rounds it takes by the reduct for `set`, an answer set or not: refusals 1 to 9, then the count.
+pub fn rounds(page: &[u8], flags: u16, set: u16) -> Counted
+    ensures { λ r. ⌜ RoundsSays (now (page .entry)) flags set r ⌝ }
+{
+    let no = accept::test_no(page, flags, set);
+    if no != 0 {
+        return Counted { no, count: 0 };
+    }
+    let n = read::row_total(page);
+    let rows = read::row_words(page);
+    let count = count_rounds(&rows[..n], flags, set);
+    Counted { no: 0, count }
 }

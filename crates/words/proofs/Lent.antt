@@ -1,11 +1,12 @@
 -- What a call lends to a test: the first words of its arrays, which are the words of the page. So each test answers for the page's program. In the
 -- words of the code: n rows and q pairs were found, and words made for them. Assumes nothing.
 use mathlib.Core.Path.{_≡_, sym, ap, _∙_}
-use mathlib.Core.List.{List, []}
+use mathlib.Core.List.{List, [], _++_}
 use Prim.Native.Nat.{ℕ, _≤_}
 use native.Mathlib.Omega.{arith}
 use lib.ListN.{length, take}
 use lib.Seq.{length-take-le}
+use Rattle.lpod.specs.Rule.{Rule, raised, rules}
 use Rattle.lpod.specs.Answer.{answer}
 use Rattle.lpod.specs.Preferred.{preferred}
 use Rattle.lpod.specs.HereThere.{hereThere}
@@ -14,7 +15,7 @@ use Rattle.page.specs.Fields.{rowCount}
 use Rattle.page.specs.Program.{rowsOf, program}
 use Rattle.page.specs.Refusals.{pageNo, testNo}
 use Rattle.page.proofs.AcceptedAtoms.{flag-page, test-flags}
-use Rattle.words.specs.Coded.{rulesIn, programIn, rowTotal, pairTotal, rowWords, pairWords}
+use Rattle.words.specs.Coded.{rulesIn, rulesWith, programIn, rowTotal, pairTotal, rowWords, pairWords}
 use Rattle.words.proofs.Back.{row-most, rows-back, same-answer, same-preferred, same-here-there, same-split}
 
 -- the first n words of an array are n words; and those that were made
@@ -41,6 +42,10 @@ module _ (page : List ℕ) (h : pageNo page ≡ 0) (n : ℕ) (rows : List ℕ) (
 
   pub lent-rows : rulesIn (take n rows) ≡ rowsOf page
   lent-rows = ap rulesIn rows-are ∙ rows-back page h
+
+  pub lent-rules : (flags : ℕ) → rulesWith (take n rows) flags ≡ rules (program page flags)
+  unfolding rulesWith rules program
+  lent-rules flags = ap (λ (l : List Rule). l ++ raised flags) lent-rows
 
   pub lent-preferred : (flags : ℕ) → preferred (programIn (take n rows) [] flags) ≡ preferred (program page flags)
   lent-preferred flags = rw rows-are (same-preferred page h flags)
