@@ -105,17 +105,17 @@ fn count_rounds(rows: &[u64], flags: u16, set: u16) -> u32
     ensures { λ r. ⌜ r ≡ chain (reduct (rulesWith (now (rows .entry)) flags) set) ⌝ }
 {
     let most = atoms::how_many(set);
-    let mut s = 0;
-    let mut n = 0;
-    while n < most {
-        let t = round(rows, flags, set, s);
-        if t == s {
-            return n;
+    let mut reached = 0;
+    let mut count = 0;
+    while count < most {
+        let next = round(rows, flags, set, reached);
+        if next == reached {
+            return count;
         }
-        s = t;
-        n += 1;
+        reached = next;
+        count += 1;
     }
-    n
+    count
 }
 
 // What the count of rounds answers.

@@ -1,5 +1,5 @@
--- `roundrun::say_atoms` is safe and ends: the lowest atom of the rest is an atom of it, and each turn takes it away. What is kept: the
--- rest has 16 bits. Assumes nothing.
+-- `roundrun::say_atoms` is safe and ends: the lowest atom of the rest is an atom of it, and each turn takes it away. What is kept: the rest has 16
+-- bits. Assumes nothing.
 use Prim.Native.Nat.{_<_}
 use native.Mathlib.Omega.{arith}
 use borrow.Author.Needs.{needs}
@@ -28,17 +28,24 @@ cast-say c = search needs
 say-requires : tie.Need-say-requires Inv-loop μ-loop
 say-requires c κs = tt
 
-cast-rest : tie.Need-cast-rest Inv-loop μ-loop
-cast-rest c = let l = atom-small _ (c .before .before .before .before .loop .inv) (c .before .before .before .loop-test .taken) _ (c .before .before .lowest .ensures) in omega arith
-
 shl-rest : tie.Need-shl-rest Inv-loop μ-loop
-shl-rest c = atom-small _ (c .before .before .before .before .loop .inv) (c .before .before .before .loop-test .taken) _ (c .before .before .lowest .ensures)
+shl-rest c =
+    let a = c .before .before in
+    atom-small _ (a .before .before .loop .inv) (a .before .loop-test .taken) _ (a .lowest .ensures)
+
+cast-rest : tie.Need-cast-rest Inv-loop μ-loop
+cast-rest c = omega (arith, shl-rest c)
 
 sub-rest : tie.Need-sub-rest Inv-loop μ-loop
-sub-rest c = single-part _ (c .before .before .before .before .loop .inv) (c .before .before .before .loop-test .taken) _ (c .before .before .lowest .ensures) .1
+sub-rest c =
+    let a = c .before .before in
+    single-part _ (a .before .before .loop .inv) (a .before .loop-test .taken) _ (a .lowest .ensures) .1
 
 loop-less : tie.Need-loop-less Inv-loop μ-loop
-loop-less c = let l = single-part _ (c .before .before .before .before .loop .inv) (c .before .before .before .loop-test .taken) _ (c .before .before .lowest .ensures) in omega (arith, l .0, l .1)
+loop-less c =
+    let a = c .before .before in
+    let part = single-part _ (a .before .before .loop .inv) (a .before .loop-test .taken) _ (a .lowest .ensures) in
+    omega (arith, part .0, part .1)
 
 loop-again : tie.Need-loop-again Inv-loop μ-loop
 loop-again c = omega (arith, c .before .before .before .before .loop .inv)

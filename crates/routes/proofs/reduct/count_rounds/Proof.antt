@@ -1,5 +1,5 @@
--- `reduct::count_rounds` makes rounds from the empty set and counts them. What is kept: the rounds that were made have each added something, and have come to
--- s. It stops where a round adds nothing, or after as many rounds as the set has atoms, when it has come to the set. Assumes nothing.
+-- `reduct::count_rounds` makes rounds from the empty set and counts them. What is kept: each that was counted added something, and they have come to the
+-- set reached. It stops where a round adds nothing, or after as many rounds as the set has atoms, when it has come to the set. Assumes nothing.
 use Prim.Native.Nat.{_-_}
 use native.Mathlib.Omega.{arith}
 use borrow.Author.Needs.{needs}
@@ -10,10 +10,10 @@ use Rattle.routes.proofs.reduct.count_rounds.Statement.{statement}
 use Rattle.routes.proofs.reduct.count_rounds.Tie as tie
 
 abbrev Inv-loop : tie.InvT-loop
-Inv-loop rows flags set most s₀ n₀ s n = Made (reduct (rulesWith rows flags) set) n s
+Inv-loop rows flags set most reached₀ count₀ reached count = Made (reduct (rulesWith rows flags) set) count reached
 
 abbrev μ-loop : tie.MeasureT-loop
-μ-loop rows flags set most s₀ n₀ s n = most - n
+μ-loop rows flags set most reached₀ count₀ reached count = most - count
 
 how-many-requires : tie.Need-how-many-requires Inv-loop μ-loop
 how-many-requires c κs = tt
@@ -29,8 +29,8 @@ returns c =
     let r = c .before .round in
     made-quiet _ _ _ (r .result) (r .ensures) (c .before .before .before .loop .inv) (c .if1 .taken)
 
-add-n : tie.Need-add-n Inv-loop μ-loop
-add-n c = search needs
+add-count : tie.Need-add-count Inv-loop μ-loop
+add-count c = search needs
 
 loop-less : tie.Need-loop-less Inv-loop μ-loop
 loop-less c = omega arith
@@ -53,7 +53,7 @@ count-rounds-spec =
     loop-holds
     round-requires
     returns
-    add-n
+    add-count
     loop-less
     loop-again
     returns-2)
