@@ -10,7 +10,7 @@ use lib.Pow.{pow-mono, shr-shr, shl-exact}
 use lib.Arith.{lt-one}
 use native.Mathlib.Omega.{arith}
 use lib.Dec.{T, eqb, ltb, eqb→eq, eqb-refl, lt→ltb, eqb·zero-suc, eqb·suc-zero, eqb·suc-suc}
-use lib.Bits.{bitAnd, bitOr, and-shr, or-shr, and-mod, or-mod, and-le-l, and-le-r}
+use lib.Bits.{bitAnd, bitOr, and-shr, or-shr, and-mod, or-mod, and-le-r}
 use Rattle.atoms.specs.Atoms.{has, insert, withAtom, Inside, inside}
 use Rattle.atoms.proofs.Truth.{or-l, or-r, or-cases, yes-true, same-yes}
 

@@ -5,7 +5,7 @@ use mathlib.Core.Path.{_≡_, refl, sym, ap, _∙_, subst}
 use mathlib.Core.Bool.{Bool, true, false, not, cond}
 use mathlib.Core.Logic.{_⊎_, inl, inr, ⊎-elim, _↔_}
 use mathlib.Core.List.{List, [], _∷_, _++_}
-use Prim.Native.Nat.{ℕ, zero, suc, _+_, _-_, _/_, _%_, _^_, _≤_, _<_}
+use Prim.Native.Nat.{ℕ, zero, suc, _+_, _-_, _/_, _%_, _≤_, _<_}
 use native.Mathlib.Nat.{lt-of-not-le}
 use native.Mathlib.Decide.{ℕ-discrete}
 use native.Mathlib.Omega.{arith}
@@ -34,7 +34,8 @@ rounds-next zero D s = refl
 rounds-next (suc n) D s = rounds-next n D (fire D s s)
 
 -- where a test passes for the numbers below n alone, so many of the numbers from i on pass it
-first-ones : (p : ℕ → Bool) (n : ℕ) → ((k : ℕ) → k < n → T (p k)) → ((k : ℕ) → n ≤ k → T (p k) → ⊥) → (i m : ℕ) → n ≤ i + m → length (keep p (numbers i m)) ≡ n - i
+first-ones : (p : ℕ → Bool) (n : ℕ) → ((k : ℕ) → k < n → T (p k)) → ((k : ℕ) → n ≤ k → T (p k) → ⊥)
+    → (i m : ℕ) → n ≤ i + m → length (keep p (numbers i m)) ≡ n - i
 unfolding keep numbers
 first-ones p n f g i zero h = omega arith
 first-ones p n f g i (suc m) h = go (p i) refl (first-ones p n f g (suc i) m (omega arith))

@@ -1,5 +1,5 @@
 -- The lowest atom of a set that is not empty: it is below 16, and as a set of its own it is no larger a number than the set. Assumes nothing.
-use mathlib.Core.Path.{_≡_, refl, sym, subst}
+use mathlib.Core.Path.{_≡_, sym, subst}
 use Prim.Native.Nat.{ℕ, _*_, _%_, _^_, _≤_, _<_}
 use native.Mathlib.Omega.{arith}
 use lib.Dec.{T, eqb→eq}

@@ -12,7 +12,7 @@ use lib.ListN.{length}
 use borrow.Author.Tests.{ne-eqb}
 use Rattle.atoms.specs.Atoms.{howMany}
 use Rattle.lpod.specs.Rule.{rules}
-use Rattle.lpod.specs.Reduct.{reduct}
+use Rattle.lpod.specs.Reduct.{Definite, reduct}
 use Rattle.lpod.specs.Least.{rounds, least}
 use Rattle.lpod.specs.Chain.{adds, chain, chainTo}
 use Rattle.lpod.proofs.Chains.{chain-ends, adds-exactly, ends-least, chain-set, chain-rows}
@@ -57,17 +57,19 @@ module _ (page : List ℕ) (flags set : ℕ) (r : Counted) (says : RoundsSays pa
   unfolding program rowsOf
   rounds-rows = few (rowCount page + howMany flags) (omega (arith, chain-rows (program page flags) set, rows-many page 0 (literalsAt page) (rowCount page)))
 
+  -- the rules by which the rounds go
+  abbrev given : List Definite
+  given = reduct (rules (program page flags)) set
+
   module _ (z : r .no ≡ 0) where
-    is-chain : chain (reduct (rules (program page flags)) set) ≡ r .count
+    is-chain : chain given ≡ r .count
     unfolding roundsTo roundsWith chainTo
     is-chain =
         let e : testNo page flags set ≡ 0 = sym (ap (λ (x : Counted). x .no) says) ∙ z in
         sym (ap (λ (x : Counted). x .count) says ∙ rw e)
 
-    pub rounds-exactly : (n : ℕ) → T (adds (reduct (rules (program page flags)) set) n) ↔ (n < r .count)
-    rounds-exactly n = subst (λ (c : ℕ). T (adds (reduct (rules (program page flags)) set) n) ↔ (n < c)) is-chain (adds-exactly (reduct (rules (program page flags)) set) n)
+    pub rounds-exactly : (n : ℕ) → T (adds given n) ↔ (n < r .count)
+    rounds-exactly n = subst (λ (c : ℕ). T (adds given n) ↔ (n < c)) is-chain (adds-exactly given n)
 
-    pub rounds-reach : rounds (r .count) (reduct (rules (program page flags)) set) 0 ≡ least (reduct (rules (program page flags)) set)
-    rounds-reach =
-        let D = reduct (rules (program page flags)) set in
-        subst (λ (c : ℕ). rounds c D 0 ≡ least D) is-chain (ends-least D (chain D) (chain-ends D .next))
+    pub rounds-reach : rounds (r .count) given 0 ≡ least given
+    rounds-reach = subst (λ (c : ℕ). rounds c given 0 ≡ least given) is-chain (ends-least given (chain given) (chain-ends given .next))

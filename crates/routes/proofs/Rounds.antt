@@ -14,7 +14,7 @@ use Rattle.atoms.proofs.Bits.{inside-le}
 use Rattle.atoms.proofs.Count.{many-more}
 use Rattle.lpod.specs.Rule.{Rule}
 use Rattle.lpod.specs.Reduct.{Definite, reduct}
-use Rattle.lpod.specs.Least.{fire, rounds, least, Closed, IsLeast}
+use Rattle.lpod.specs.Least.{fire, rounds, least, Closed}
 use Rattle.lpod.specs.Chain.{adds, chain}
 use Rattle.lpod.proofs.LeastClosed.{fire-keeps, fire-inside, rounds-inside, empty-inside, closed-fixed, fixed-closed, is-least}
 use Rattle.lpod.proofs.Chains.{Quiet, rounds-next, more-adds, chain-found, grown}
