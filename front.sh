@@ -1,5 +1,5 @@
-# Sourced by ./pagerun and ./showrun, which name themselves in `me`: bad usage and breakdowns, flag words, bytes, refusal numbers in words, and
-# how a program of this repository is proved, built and run.
+# Sourced by ./pagerun, ./roundrun and ./showrun, which name themselves in `me`: bad usage and breakdowns, flag words and sets, bytes, refusal numbers in
+# words, and how a program of this repository is proved, built and run.
 
 # bad WORDS..: bad usage
 bad() {
@@ -30,21 +30,34 @@ hex_digits() {
     without_zeros "${1#0?}"
 }
 
-# flag_word TEXT: puts the number that TEXT says into `flags`
-flag_word() {
-    case $1 in
+# word_of WHAT TEXT: puts the number that TEXT says, from 0 to 65535, into `word`; WHAT is what the number stands for
+word_of() {
+    case $2 in
     0[xX]*)
-        hex_digits "$1"
-        [ "${#digits}" -le 4 ] || bad "a flag word is at most 0xffff: $1"
-        flags=$((0x$digits))
+        hex_digits "$2"
+        [ "${#digits}" -le 4 ] || bad "$1 is at most 0xffff: $2"
+        word=$((0x$digits))
         ;;
-    '' | *[!0-9]*) bad "no number: '$1'" ;;
+    '' | *[!0-9]*) bad "no number: '$2'" ;;
     *)
-        without_zeros "$1"
-        { [ "${#digits}" -le 5 ] && [ "$digits" -le 65535 ]; } || bad "a flag word is at most 65535: $1"
-        flags=$digits
+        without_zeros "$2"
+        { [ "${#digits}" -le 5 ] && [ "$digits" -le 65535 ]; } || bad "$1 is at most 65535: $2"
+        word=$digits
         ;;
     esac
+}
+
+# flag_word TEXT: puts the number that TEXT says into `flags`
+flag_word() {
+    word_of 'a flag word' "$1"
+    flags=$word
+}
+
+# given_set TEXT: puts the number that TEXT says into `given`, which is empty where no set is given
+given=
+given_set() {
+    word_of 'a set' "$1"
+    given=$word
 }
 
 # page_file NAME: there is such a file, and it can be read
@@ -60,12 +73,14 @@ byte() {
     done
 }
 
-# flag_bytes: the flag word, low byte first
-flag_bytes() {
-    byte $((flags % 256)) $((flags / 256))
+# word_bytes NUMBER..: each as two bytes, the low one first
+word_bytes() {
+    for word in "$@"; do
+        byte $((word % 256)) $((word / 256))
+    done
 }
 
-# means NUMBER: what a refusal number says, in words
+# means NUMBER: what a refusal number says, in words. Where a set is given, 9 may be its fault too.
 means() {
     case $1 in
     1) echo "page fault: the file has fewer than 18 bytes, which is too short for a header" ;;
@@ -76,7 +91,7 @@ means() {
     6) echo "page fault: a row or a pair names an atom that the page does not have" ;;
     7) echo "page fault: a body list does not rise; each atom has to be above the one before it" ;;
     8) echo "page fault: a pair is not in order, the pairs do not rise, or an atom stands in two of them" ;;
-    9) echo "call fault: the flag word raises an atom that the page does not have" ;;
+    9) echo "call fault: the flag word raises${given:+, or the set has,} an atom that the page does not have" ;;
     10) echo "finding: with these flags the page has no answer set, so there is nothing to pick" ;;
     11) echo "call fault: the page has more answer sets than the 32,768 that can be listed" ;;
     14) echo "display: the page has fewer than four atoms, or the pick, which ./pagerun shows, does not hold exactly one of live, second, held and none" ;;
@@ -85,9 +100,21 @@ means() {
     esac
 }
 
-# answer_of PROGRAM: proves and builds the program where that is still to be done, runs it on standard input, shows what it prints and puts the last
-# line into `last`. `top` is the repository's top.
-answer_of() {
+# needs_awk WORDS: awk, which does this, can be run
+needs_awk() {
+    command -v awk >/dev/null || broken "awk, which $1, is not on the path"
+}
+
+# keep: makes a folder for what is needed until the end, `kept`
+keep() {
+    kept=$(mktemp -d) || exit 3
+    trap 'rm -rf "$kept"' EXIT
+    trap 'exit 130' HUP INT TERM
+}
+
+# ask PROGRAM: proves and builds the program where that is still to be done, runs it on standard input, keeps what it prints in a file, `out`, and puts
+# the last line into `last`. `top` is the repository's top.
+ask() {
     guide=$(rt doc) || broken "rt, the prover, is not on the path"
     kit=$(dirname "$(dirname "$guide")")
     libs=$kit/toolchain/lib
@@ -95,16 +122,19 @@ answer_of() {
     emulator=$kit/on/$(uname -m)/toolchain/bin/qemu-x86_64
     [ -x "$emulator" ] || emulator=
 
-    out=$(mktemp) || exit 3
-    trap 'rm -f "$out"' EXIT
-    trap 'exit 130' HUP INT TERM
+    out=$kept/$1
     (CDPATH='' cd -- "$top" && rt check "$1") >"$out" 2>&1 </dev/null || {
         cat "$out" >&2
         broken "the program is not proved"
     }
     ${emulator:+"$emulator"} "$libs/ld-linux-x86-64.so.2" --library-path "$libs" "$top/target/bin/$1" >"$out" || broken "the program broke off"
-    cat "$out"
     last=$(tail -n 1 "$out")
+}
+
+# answer_of PROGRAM: asks it, and shows what it prints
+answer_of() {
+    ask "$1"
+    cat "$out"
 }
 
 # why_refused LINE [WORDS]: says what the refusal in the program's last line means, adds the words, and ends

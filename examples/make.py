@@ -77,6 +77,7 @@ pages = {
          "no head if second1, second2", "no head if held1, held2",
          "aged if held1", "aged if held2", "blind if none1", "blind if none2",
          "call if blind", "call if aged, not washing"]),
+    "steps": page_bytes("pump flow valid".split(), ["pump", "flow if pump", "valid if flow"]),
     "car": page_bytes(
         "mercedes bmw gas diesel not-gas".split(),
         ["mercedes x bmw", "gas x diesel if mercedes", "not-gas"], [("gas", "not-gas")]),

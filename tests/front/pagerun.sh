@@ -1,20 +1,31 @@
-# Sourced by run: what ./pagerun prints of each example, and its exit status; refused pages in words; bad usage; files that are too short or too long; and the
-# program behind it on inputs that the front never gives.
+# Sourced by run: what ./pagerun prints of each example, with the rounds and without them, and its exit status; refused pages in words; bad usage; files that
+# are too short or too long; and the program behind it on inputs that the front never gives.
 me=pagerun
 
-# shows PAGE FLAGS STATUS: the lines of the definitions, after which only a refusal's words may stand, and this status
-shows() {
-    front "$1" "$2"
-    python3 tests/known/meaning.py "$1" "$2" >"$made/want"
+# lines_of STATUS [--rounds] PAGE FLAGS: the lines of the definitions, after which only a refusal's words may stand, and this status
+lines_of() {
+    wanted=$1
+    shift
+    front "$@"
+    python3 tests/known/meaning.py "$@" >"$made/want"
     lines=$(wc -l <"$made/want")
-    head -n "$lines" "$made/out" | cmp -s - "$made/want" && [ "$(wc -l <"$made/out")" -eq $((lines + $3)) ] &&
-        [ "$status" -eq "$3" ] && [ ! -s "$made/err" ]
-    verdict "$1 with flags $2"
+    head -n "$lines" "$made/out" | cmp -s - "$made/want" && [ "$(wc -l <"$made/out")" -eq $((lines + wanted)) ] &&
+        [ "$status" -eq "$wanted" ] && [ ! -s "$made/err" ]
+    verdict "the lines of ./pagerun $*"
+}
+
+# shows PAGE FLAGS STATUS: without the rounds and with them
+shows() {
+    lines_of "$3" "$1" "$2"
+    lines_of "$3" --rounds "$1" "$2"
 }
 
 front examples/two.page
 printf 'sets 2\nset 1 degrees 1 best\nset 2 degrees 2\npick 1\n' | cmp -s - "$made/out" && [ "$status" -eq 0 ]
 verdict 'the four lines of the first known page, nothing raised'
+front --rounds examples/steps.page
+printf 'sets 1\nset 7 degrees 1 1 1 best rounds 3\npick 7\n' | cmp -s - "$made/out" && [ "$status" -eq 0 ]
+verdict 'the three rounds of a chain of three'
 
 shows examples/train.page 0 0
 shows examples/train.page 16 0
@@ -22,6 +33,8 @@ shows examples/train.page 0x30 0
 shows examples/two-trains.page 0 0
 shows examples/two-trains.page 0x0500 0
 shows examples/two-trains.page 0x1000 0
+shows examples/steps.page 0 0
+shows examples/steps.page 2 0
 shows examples/car.page 0 0
 shows examples/never.page 0 1
 shows examples/tail.page 0 1
@@ -34,27 +47,17 @@ front examples/train.page 16
 python3 tests/known/meaning.py examples/train.page 0 >"$made/want"
 ! cmp -s "$made/out" "$made/want"
 verdict 'lines for other flags are seen to differ'
+front --rounds examples/steps.page 2
+python3 tests/known/meaning.py --rounds examples/steps.page 0 >"$made/want"
+! cmp -s "$made/out" "$made/want"
+verdict 'lines with other rounds are seen to differ'
 
 page=examples/two.page
-# changed NAME OFFSET OCTAL: the page with another byte at a place
-changed() {
-    # shellcheck disable=SC2059
-    { head -c "$2" "$page" && printf "\\$3" && tail -c +$(($2 + 2)) "$page"; } >"$made/$1"
-}
-
-head -c 17 "$page" >"$made/short"
-changed form 0 002
-changed atoms 2 021
-changed tall 18 007
-changed atom 23 002
 longer "$page" 4094 long-4094
 longer "$page" 4095 long-4095
 longer "$page" 70000 long-70000
 longer "$made/form" 5000 long-form
 longer "$made/atoms" 5000 long-atoms
-# a row `a if c, b`, whose body falls; and no rows, with a pair of one atom
-printf '\001\0\003\0\001\0\003\0\0\0\022\0\026\0\031\0\031\0\001\002\0\0\0\002\001' >"$made/falls"
-printf '\001\0\003\0\0\0\0\0\001\0\022\0\022\0\022\0\024\0\001\001' >"$made/pair"
 
 refuses 1 'page fault' "$made/empty"
 refuses 1 'page fault' "$made/short"
@@ -76,6 +79,10 @@ refuses 11 'call fault' examples/rings.page
 
 unusable
 unusable examples/two.page 1 2
+unusable --rounds
+unusable --rounds examples/two.page 1 2
+unusable --rounds --rounds examples/two.page
+unusable examples/two.page --rounds
 unusable examples/two.page ''
 unusable examples/two.page -1
 unusable examples/two.page 12x
@@ -110,6 +117,10 @@ printf '\0\0\001\0\001\0\0\0\0\0\0\0\022\0\022\0\022\0\022\0' >"$made/bare"
 says 'a page without rows' 'sets 1
 set 0 degrees none best
 pick 0' <"$made/bare"
+tail -c +3 "$made/bare" >"$made/no-rows"
+front --rounds "$made/no-rows"
+printf 'sets 1\nset 0 degrees none best rounds 0\npick 0\n' | cmp -s - "$made/out" && [ "$status" -eq 0 ]
+verdict 'no round to the set of a page without rows'
 { printf '\0' && sleep 1 && printf '\0' && head -c 10 "$page" && sleep 1 && tail -c +11 "$page"; } | {
     says 'an input that comes bit by bit' "$(cat crates/pagerun/stdout)"
     echo "$passed $failed" >"$made/so-far"

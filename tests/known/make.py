@@ -107,6 +107,11 @@ class Case:
     def reduct(self, s):
         self.test(b"r", "reduct", s, meaning.is_answer)
 
+    def rounds(self, s):
+        number = self.set_number(s)
+        count = meaning.rounds_to(self.page, self.flags, s) if number == 0 else 0
+        self.add(b"n", s, 0, f"rounds to {s}: number {number}, count {count}")
+
     def here_there(self, s):
         self.test(b"h", "here-and-there", s, meaning.is_here_there)
 
@@ -159,11 +164,18 @@ class Case:
         self.degrees(s)
         self.compare(s, s)
         self.reduct(s)
+        self.rounds(s)
         self.here_there(s)
         self.split(s)
         self.rows(1)
 
-    def said(self, sets=None, pick=None, degrees=(), compare=(), split=(), not_answers=()):
+    def chain(self, wanted):
+        """The rounds to some sets, and how many there are known to be."""
+        for s, want in wanted.items():
+            self.rounds(s)
+            assert self.lines[-1].endswith(f"number 0, count {want}"), (self.name, s)
+
+    def said(self, sets=None, pick=None, degrees=(), compare=(), split=(), not_answers=(), rounds=()):
         """What is known of this page beforehand; the definitions have to give the same. Its calls are run."""
         self.list()
         self.best()
@@ -186,6 +198,10 @@ class Case:
         for s in not_answers:
             self.reduct(s)
             assert not self.is_answer(s), (self.name, s)
+        self.chain(dict(rounds))
+        below = 1 << self.page.atoms
+        for s in sorted({*self.sets(), *not_answers, 0, below - 1, below} - {*dict(rounds)}):
+            self.rounds(s)  # to the answer sets and to others, all atoms and one out of range among them
         self.three()
         self.rows(len(self.page.rows) + 1)
         return self
@@ -217,7 +233,7 @@ def known_pages():
     assert meaning.reduct(case_3.page.rows, 6) == [(1, [2])]
     assert meaning.least(meaning.reduct(case_3.page.rows, 0)) == 0
     assert [meaning.satisfied(row, 0) for row in case_3.page.rows] == [True, False, False]
-    Case("case 4", EXAMPLES.pages["car"]).said([18, 25], pick=18, compare=[(18, 25, "0")])
+    Case("case 4", EXAMPLES.pages["car"]).said([18, 25], pick=18, compare=[(18, 25, "0")], rounds={18: 1, 25: 2})
     Case("case 5", page(2, "a x b", "b")).said([2, 3], pick=3)
     case_6 = Case("case 6", EXAMPLES.pages["never"]).said([])
     case_6.list(0)  # none into none: accepted
@@ -225,7 +241,7 @@ def known_pages():
     Case("case 7", page(1)).said([0], pick=0)
     Case("case 8", page(1, "no head")).said([])
     Case("case 9", page(2, "a x b", "no head if a")).said([2], pick=2)
-    case_10 = Case("case 10", page(2, "a if b", "b if a")).said([0], pick=0, not_answers=[3])
+    case_10 = Case("case 10", page(2, "a if b", "b if a")).said([0], pick=0, not_answers=[3], rounds={0: 0, 3: 0})
     assert all(meaning.satisfied(row, 3) for row in case_10.page.rows)
     case_11 = Case("case 11", page(2, "a x b x a")).said([1, 2], split={1: 1, 2: 1})
     assert meaning.split_programs(case_11.page) == 3
@@ -233,6 +249,35 @@ def known_pages():
         Case("case 12", EXAMPLES.pages["train"], flags).said(sets, pick=pick)
     Case("case 13", page(5, "a x b x c", "d x e", "no head if b", "no head if a, d", "no head if c, e")).said(
         [12, 17], pick=12, degrees={12: [3, 1, 1, 1, 1], 17: [1, 2, 1, 1, 1]}, compare=[(12, 17, "0")])
+
+
+def chains():
+    """How many rounds it takes. The rows fire together in each, and those of the raised atoms are among them."""
+    steps = EXAMPLES.pages["steps"]
+    assert steps == page(3, "a", "b if a", "c if b")
+    three = Case("a chain of three", steps).said([7], pick=7, rounds={7: 3, 6: 0, 5: 1, 3: 2, 1: 1})
+    for s in (9, 15, 32775, 65535):
+        three.rounds(s)
+        assert three.set_number(s) == 9
+    Case("a chain of three, the second raised", steps, 2).said([7], pick=7, rounds={7: 2, 6: 2, 3: 1, 2: 1, 5: 1, 1: 1, 4: 0})
+    Case("a chain of three, the last raised", steps, 4).said([7], pick=7, rounds={7: 2, 3: 2, 6: 1, 4: 1})
+    Case("a raised atom without a row", page(4, "a", "b if a"), 8).said([11], pick=11, rounds={11: 2, 3: 2, 10: 1, 2: 0})
+    Case("all in the first round", page(4, "a", "b x a", "c if not d", "d x c if not c")).said(rounds={7: 1, 15: 1, 11: 1})
+    Case("the shorter of two ways", page(3, "a", "b if a", "c if b", "c")).said([7], rounds={7: 2, 5: 1})
+    Case("two reasons, the later counts", page(4, "a", "b if a", "c if a, d", "d if b")).said([15], rounds={15: 4, 7: 2, 13: 1})
+    Case("a ring with a way in", page(3, "a if c", "b if a", "c if b", "b")).said([7], rounds={7: 3, 5: 0})
+    Case("a later place of a head", page(3, "a", "b x c if a", "a if c")).said([3, 5], rounds={3: 2, 5: 2, 7: 2, 6: 0})
+    Case("a chain that holds a pair", page(2, "a", "b if a", pairs=["ab"])).said([], rounds={3: 2, 1: 1})
+    Case("a chain that breaks a row", page(2, "a", "b if a", "no head if b")).said([], rounds={3: 2})
+    Case("a chain with a negative body", page(3, "a", "b if a, not c", "c if b")).said([], rounds={3: 2, 7: 1, 5: 1})
+    links = ["a"] + [f"{LETTERS[i]} if {LETTERS[i - 1]}" for i in range(1, 16)]
+    whole, no_first, no_last, no_middle = 65535, 65534, 32767, 65279
+    Case("sixteen in a chain, rows in order", page(16, *links)).chain({whole: 16, no_first: 0, no_last: 15, no_middle: 8})
+    Case("sixteen in a chain, rows against the order", page(16, *links[::-1])).chain({whole: 16, no_first: 0, no_last: 15, no_middle: 8})
+    Case("sixteen in a chain, the first raised", page(16, *links[:0:-1]), 1).chain({whole: 16, no_first: 0, no_last: 15, no_middle: 8})
+    Case("sixteen in a chain, the middle raised", page(16, *links[::-1]), 256).chain({whole: 8, no_first: 8, no_last: 8, no_middle: 8})
+    Case("sixteen in the first round", page(16, *LETTERS)).chain({whole: 1, no_first: 1, 0: 0})
+    Case("sixteen raised", page(16), 65535).chain({whole: 1, no_first: 1, 0: 0})
 
 
 def large_pages():
@@ -251,6 +296,7 @@ def large_pages():
     rings.compare(65535, 4161)
     rings.reduct(4161)
     rings.reduct(4160)
+    rings.chain({65535: 1, 4161: 1, 0: 0})
     rings.here_there(4161)
     rings.split(4161)  # far more than 4,096 split programs
     wishes = Case("fifteen wishes", EXAMPLES.pages["wishes"])
@@ -294,6 +340,7 @@ def edges():
     over_4096 = Case("8,192 split programs", page(4, *fours, "a x b"))
     over_4096.split(15)
     over_4096.reduct(15)
+    over_4096.rounds(15)
     over_4096.here_there(15)
     Case("the last atom raised", EXAMPLES.pages["train"], 32).every_call(33)
     Case("an atom raised that is not there", EXAMPLES.pages["train"], 64).every_call()
@@ -310,6 +357,7 @@ def edges():
     for s in (3, 4, 65535):
         given.degrees(s)
         given.reduct(s)
+        given.rounds(s)
         given.here_there(s)
         given.split(s)
         given.compare(s, 1)
@@ -382,10 +430,13 @@ def faults():
     raised.list(0)
     raised.degrees(3, 0)
     raised.compare(3, 3)
+    raised.rounds(3)
     raised.pick()
     far = Case("a set out of range, too many split programs", page(4, *["a x b x c x d"] * 7))
     far.split(16)
     far.split(1)
+    far.rounds(16)
+    far.rounds(1)
 
 
 def letters():
@@ -397,6 +448,7 @@ def letters():
 
 def build():
     known_pages()
+    chains()
     large_pages()
     edges()
     lengths()

@@ -77,17 +77,26 @@ def no_pair(page, s):
     return not any(s >> a & 1 and s >> b & 1 for a, b in page.pairs)
 
 
-def least(rules):
-    """The least set closed under rules of one head atom and a positive body."""
-    s = 0
-    while True:
-        more = s
+def reached(rules):
+    """The empty set, and the set after each round that adds something. The rules have one head atom and a positive body; in a round they fire
+    together, so each body is looked at in the set before the round."""
+    s, more = None, 0
+    while more != s:
+        s = more
+        yield s
         for atom, positive in rules:
             if all(s >> a & 1 for a in positive):
                 more |= 1 << atom
-        if more == s:
-            return s
-        s = more
+
+
+def least(rules):
+    """The least set closed under the rules: the last that is reached."""
+    return list(reached(rules))[-1]
+
+
+def rounds(rules):
+    """How many rounds add something."""
+    return len(list(reached(rules))) - 1
 
 
 def reduct(program, s):
@@ -99,6 +108,11 @@ def reduct(program, s):
 def is_answer(page, flags, s):
     program = page.program(flags)
     return no_pair(page, s) and all(satisfied(row, s) for row in program) and least(reduct(program, s)) == s
+
+
+def rounds_to(page, flags, s):
+    """How many rounds it takes by the reduct for s, an answer set or not."""
+    return rounds(reduct(page.program(flags), s))
 
 
 def is_here_there(page, flags, t):
@@ -188,8 +202,8 @@ def solved(data, flags):
     return page, number, answers(page, flags) if number == 0 else []
 
 
-def printed(data, flags):
-    """What the program pagerun prints of a page and a flag word."""
+def printed(data, flags, with_rounds=False):
+    """What the program pagerun prints of a page and a flag word, and what the front adds where the rounds are asked for."""
     page, number, sets = solved(data, flags)
     if number == 0 and len(sets) > 32768:
         number = 11
@@ -200,8 +214,22 @@ def printed(data, flags):
     among = set(winners)
     for s in sets:
         text = " ".join(map(str, degrees(page, s))) or "none"
-        lines.append(f"set {s} degrees {text}" + (" best" if s in among else ""))
+        lines.append(f"set {s} degrees {text}" + (" best" if s in among else "") + (f" rounds {rounds_to(page, flags, s)}" if with_rounds else ""))
     lines.append(f"pick {winners[0]}" if winners else "refused 10")
+    return "\n".join(lines) + "\n"
+
+
+def counted(data, flags, first, last):
+    """What the program roundrun prints of the sets from the first to the last; where the last is below the first, of the first alone."""
+    page = Page(data)
+    lines = []
+    for s in range(first, max(first, last) + 1):
+        number = page.number or (9 if page.out(flags, s) else 0)
+        if number:
+            lines.append(f"refused {number}")
+            break
+        atoms = " ".join(map(str, atoms_of(s))) or "none"
+        lines.append(f"set {s} atoms {atoms} rounds {rounds_to(page, flags, s)}")
     return "\n".join(lines) + "\n"
 
 
@@ -223,6 +251,15 @@ def display(data, flags, readings):
     return f"{('live', 'second', 'held')[outcomes[0]]} {bits:08x}\n"
 
 
+def main(words):
+    """PAGE FLAGS: what pagerun prints; --rounds PAGE FLAGS: with the rounds; PAGE FLAGS FIRST LAST: what roundrun prints."""
+    with_rounds = words[0] == "--rounds"
+    name, *numbers = words[1:] if with_rounds else words
+    flags, *ends = (int(word, 0) for word in numbers)
+    with open(name, "rb") as file:
+        data = file.read()
+    sys.stdout.write(counted(data, flags, *ends) if ends else printed(data, flags, with_rounds))
+
+
 if __name__ == "__main__":
-    with open(sys.argv[1], "rb") as file:
-        sys.stdout.write(printed(file.read(), int(sys.argv[2], 0)))
+    main(sys.argv[1:])

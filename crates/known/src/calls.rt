@@ -1,4 +1,4 @@
-// The calls that lend no memory: the three tests, the comparison, the pick, the row reader, the panel letter.
+// The calls that lend no memory: the three tests, the rounds, the comparison, the pick, the row reader, the panel letter.
 ghost use Prim.Native.Nat.{_≤_};
 use crate::say;
 use page::reader;
@@ -19,6 +19,15 @@ pub fn reduct(page: &[u8], flags: u16, set: u16) {
     say::with(b"  reduct test of ", set as u64);
     say::with(b": number ", r.no as u64);
     say::verdict(b", ", r.yes);
+    say::words(b"\n");
+}
+
+// The rounds that it takes to one set.
+pub fn rounds(page: &[u8], flags: u16, set: u16) {
+    let r = reduct::rounds(page, flags, set);
+    say::with(b"  rounds to ", set as u64);
+    say::with(b": number ", r.no as u64);
+    say::with(b", count ", r.count as u64);
     say::words(b"\n");
 }
 

@@ -17,6 +17,7 @@ fn run_call(page: &[u8], flags: u16, call: Call) {
         b'b' => lists::sets(page, flags, true, call.first),
         b'd' => lists::degrees(page, flags, call.first, call.second),
         b'r' => calls::reduct(page, flags, call.first),
+        b'n' => calls::rounds(page, flags, call.first),
         b'h' => calls::here_there(page, flags, call.first),
         b's' => calls::split(page, flags, call.first),
         b't' => calls::all_three(page, flags, call.first),
