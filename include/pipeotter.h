@@ -121,10 +121,11 @@ uint32_t pipeotter_split_test(const uint8_t *page, size_t length, uint16_t flags
 /* How long is the chain of reasons behind `set`? Its atoms come in by rounds, starting from none. A row whose negative
    body has no atom in the set brings in the first of its head atoms that is in the set, one round after the last atom of
    its positive body came in, and in round 1 if that body is empty. A raised flag comes in with round 1, if the set has it.
+   An atom comes in once, by the first that brings it.
    Any set will do. Of an answer set every atom comes in; of another some may never, and those count for nothing. Pairs
    change nothing, nor do rows that the set breaks: the value does not say whether the set is allowed.
-   Value: in how many rounds something comes in, 0 to 16. It is never above the number of atoms in the set, nor above R
-   and the number of raised flags together.
+   Value: in how many rounds something new comes in, 0 to 16. It is never above the number of atoms in the set, nor above
+   R and the number of raised flags together.
    Refusals, in order: 1 to 8, 9 (flags or set). */
 uint32_t pipeotter_rounds(const uint8_t *page, size_t length, uint16_t flags, uint16_t set);
 

@@ -127,8 +127,9 @@ static void ask_rounds(uint16_t set) {
     Answer want = second_rounds(&solved, set);
     ask_test("rounds", pipeotter_rounds, set, want);
     if (want.number) return;
-    rounds_seen[want.value]++;
-    if (((int)want.value > __builtin_popcount(set) || (int)want.value > solved.rules) && disagrees("none"))
+    if ((int)want.value <= __builtin_popcount(set) && (int)want.value <= solved.rules)
+        rounds_seen[want.value]++;
+    else if (disagrees("none"))
         printf("\n  the second solver counts more rounds than there are atoms or rules: set 0x%04x, %u\n", set, want.value);
 }
 

@@ -379,7 +379,8 @@ enum { NO_HEIGHT = 1000 }; /* above every height */
 
 /* The atom that a rule gives in the reduct of the set, -1 where it gives none. */
 static int given(const Rule *rule, uint32_t set) {
-    for (int k = 0; k < rule->heads && !(rule->negative & set); k++)
+    if (rule->negative & set) return -1;
+    for (int k = 0; k < rule->heads; k++)
         if (set >> rule->head[k] & 1) return rule->head[k];
     return -1;
 }

@@ -93,14 +93,16 @@ and-imp true true e t = tt
 and-imp true false e t = absurd (false≢true e)
 and-imp false y e t = absurd t
 
--- two numbers of any width: both are below a power of 2
-pub lt-pow : (n : ℕ) → n < 2 ^ n
+lt-pow : (n : ℕ) → n < 2 ^ n
 lt-pow zero = omega arith
 lt-pow (suc n) = rw (pow-suc 2 n) (let h = lt-pow n in omega arith)
 
+-- two numbers of any width: both are below a power of 2
+pub both-below : (a b : ℕ) → (a < 2 ^ (a + b)) × (b < 2 ^ (a + b))
+both-below a b = (lt-of-lt-of-le (lt-pow a) (pow-mono (omega arith)), lt-of-lt-of-le (lt-pow b) (pow-mono (omega arith)))
+
 pub same-atoms : (a b : ℕ) → ((i : ℕ) → has a i ≡ has b i) → a ≡ b
-same-atoms a b f =
-    has-ext (a + b) a b (lt-of-lt-of-le (lt-pow a) (pow-mono (omega arith))) (lt-of-lt-of-le (lt-pow b) (pow-mono (omega arith))) (λ i l. f i)
+same-atoms a b f = has-ext (a + b) a b (both-below a b .0) (both-below a b .1) (λ i l. f i)
 
 pub inside-both : (a b : ℕ) → Inside a b → Inside b a → a ≡ b
 inside-both a b f g = same-atoms a b (λ i. same-yes (has a i) (has b i) (f i) (g i))

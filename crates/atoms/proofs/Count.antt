@@ -1,15 +1,15 @@
 -- How many atoms a set has, and its lowest: the machine's counts of bits, in terms of membership. Assumes nothing.
 use mathlib.Core.Path.{_≡_, refl, sym, ap, _∙_, subst}
 use Prim.Native.Nat.{ℕ, zero, suc, _+_, _*_, _/_, _%_, _^_, _≤_, _<_}
-use native.Mathlib.Nat.{mod-lt, zero-lt-suc, pow-suc, lt-of-lt-of-le}
+use native.Mathlib.Nat.{mod-lt, zero-lt-suc, pow-suc}
 use native.Mathlib.Omega.{arith}
 use lib.Dec.{T, eqb}
 use lib.Arith.{lt-one, lt-of-le-ne}
 use lib.Bits.{or-lt}
-use lib.Pow.{pow-lt, pow-mono}
+use lib.Pow.{pow-lt}
 use lib.Count.{ones, ones-step, ones-le, trailingZeros, under}
 use Rattle.atoms.specs.Atoms.{has, Inside, insert, howMany}
-use Rattle.atoms.proofs.Bits.{two, has-low, has-next, lt-pow}
+use Rattle.atoms.proofs.Bits.{two, has-low, has-next, both-below}
 
 pub insert-lt : (k s j : ℕ) → s < 2 ^ k → j < k → insert s j < 2 ^ k
 insert-lt k s j h l = or-lt k s (2 ^ j) h (pow-lt l)
@@ -45,14 +45,10 @@ ones-same (suc k) a b h g f l =
 
 -- the same of sets of any width; a part that is not the whole has fewer
 pub many-mono : (a b : ℕ) → Inside a b → howMany a ≤ howMany b
-many-mono a b f = ones-mono a a b (lt-pow a) f
+many-mono a b f = ones-mono (a + b) a b (both-below a b .0) f
 
 pub many-more : (a b : ℕ) → Inside a b → (a ≡ b → ⊥) → howMany a < howMany b
-many-more a b f n =
-    lt-of-le-ne (many-mono a b f)
-    (λ e.
-    n
-    (ones-same (a + b) a b (lt-of-lt-of-le (lt-pow a) (pow-mono (omega arith))) (lt-of-lt-of-le (lt-pow b) (pow-mono (omega arith))) f (omega (arith, e))))
+many-more a b f n = lt-of-le-ne (many-mono a b f) (λ e. n (ones-same (a + b) a b (both-below a b .0) (both-below a b .1) f (omega (arith, e))))
 
 -- the lowest atom of a set that is not empty is in it, and none below
 pub lowest-in : (k s : ℕ) → s < 2 ^ k → 0 < s → T (has s (trailingZeros k s))

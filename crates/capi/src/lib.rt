@@ -62,13 +62,13 @@ pub extern "C" fn pipeotter_split_test(page: &[u8], flags: u16, set: u16) -> u32
     word(r.no, r.count)
 }
 
-// How many rounds it takes to the set, an answer set or not.
+// How many rounds add something on the way to the set, an answer set or not.
 #[no_mangle]
 pub extern "C" fn pipeotter_rounds(page: &[u8], flags: u16, set: u16) -> u32
     ensures { λ r. ⌜ r ≡ means.roundsWord (now (page .entry)) flags set ⌝ }
 {
-    let r = routes::reduct::rounds(page, flags, set);
-    word(r.no, r.count as u16)
+    let counted = routes::reduct::rounds(page, flags, set);
+    word(counted.no, counted.count as u16)
 }
 
 // All answer sets, rising, into the lent slice; the value is their number.

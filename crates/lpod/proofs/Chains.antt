@@ -18,13 +18,13 @@ use Rattle.atoms.proofs.Truth.{true-yes, false-no}
 use Rattle.atoms.proofs.Bits.{has-low, has-next}
 use Rattle.atoms.proofs.Count.{many-mono, many-more}
 use Rattle.lpod.specs.Lists.{every, some, keep, gather, numbers, below}
-use Rattle.lpod.specs.Rule.{Rule, Program, fact, raised, rules}
+use Rattle.lpod.specs.Rule.{Program, fact, raised, rules}
 use Rattle.lpod.specs.Satisfied.{allIn, someIn, noneIn}
 use Rattle.lpod.specs.Reduct.{Definite, reductHead, reductRow, reduct}
 use Rattle.lpod.specs.Least.{fire, rounds, least}
 use Rattle.lpod.specs.Chain.{adds, chain, chainTo}
 use Rattle.lpod.proofs.LeastClosed.{fire-keeps, fixed-closed, closed-fixed, least-closed, least-inside, closed-least}
-use Rattle.lpod.proofs.FirstAtom.{firstIn, ifs, row-first}
+use Rattle.lpod.proofs.FirstAtom.{reduct-length}
 use Rattle.lpod.proofs.ReductIsHereThere.{self-closed}
 
 -- one round more
@@ -50,13 +50,25 @@ module _ (D : List Definite) where
   abbrev pub Quiet : ℕ → Type 0
   Quiet n = rounds (suc n) D 0 ≡ rounds n D 0
 
+  -- each of the first n adds something
+  abbrev pub Each : ℕ → Type 0
+  Each n = (k : ℕ) → k < n → T (adds D k)
+
   adds-more : (n : ℕ) → T (adds D n) → Quiet n → ⊥
   unfolding adds
   adds-more n t q = subst (λ (b : Bool). T (not b)) (eq-eqb _ _ q) t
 
-  pub more-adds : (n : ℕ) → (Quiet n → ⊥) → T (adds D n)
+  more-adds : (n : ℕ) → (Quiet n → ⊥) → T (adds D n)
   unfolding adds
   more-adds n f = subst (λ (b : Bool). T (not b)) (sym (ne-eqb _ _ f)) tt
+
+  -- one more that adds something
+  pub one-more : (n : ℕ) → Each n → (Quiet n → ⊥) → Each (suc n)
+  one-more n f d k l = at (ℕ-discrete k n)
+    where
+      at : Dec (k ≡ n) → T (adds D k)
+      at (yes e) = subst (λ (j : ℕ). T (adds D j)) (sym e) (more-adds n d)
+      at (no e) = f k (omega arith)
 
   -- after such a round nothing changes any more
   quiet-on : (n : ℕ) → Quiet n → (k : ℕ) → n ≤ k → rounds k D 0 ≡ rounds n D 0
@@ -76,20 +88,16 @@ module _ (D : List Definite) where
 
   -- the first n rounds add something, and the next does not
   pub record Ends (n : ℕ) : Type 0 where
-    pub first : (k : ℕ) → k < n → T (adds D k)
+    pub first : Each n
     pub next : Quiet n
 
-  found : (m : ℕ) → ((n : ℕ) × Ends n) ⊎ ((k : ℕ) → k < m → T (adds D k))
+  found : (m : ℕ) → ((n : ℕ) × Ends n) ⊎ Each m
   found zero = inr (λ k l. absurd (omega arith))
   found (suc m) = ⊎-elim (λ r. inl r) (λ f. go (ℕ-discrete (rounds (suc m) D 0) (rounds m D 0)) f) (found m)
     where
-      go : Dec (Quiet m) → ((k : ℕ) → k < m → T (adds D k)) → ((n : ℕ) × Ends n) ⊎ ((k : ℕ) → k < suc m → T (adds D k))
+      go : Dec (Quiet m) → Each m → ((n : ℕ) × Ends n) ⊎ Each (suc m)
       go (yes q) f = inl (m, record { first = f; next = q })
-      go (no d) f = inr (λ k l. at k (ℕ-discrete k m) l)
-        where
-          at : (k : ℕ) → Dec (k ≡ m) → k < suc m → T (adds D k)
-          at k (yes e) l = subst (λ (j : ℕ). T (adds D j)) (sym e) (more-adds m d)
-          at k (no e) l = f k (omega arith)
+      go (no d) f = inr (one-more m f d)
 
   ended : (n : ℕ) × Ends n
   ended = ⊎-elim (λ r. r) (λ f. (length D, record { first = f; next = quiet-end })) (found (length D))
@@ -116,7 +124,7 @@ module _ (D : List Definite) where
   ends-least n q = sym (closed-least n D (fixed-closed D (rounds n D 0) (sym (rounds-next n D 0) ∙ q)))
 
   -- each brings in an atom
-  pub grown : (n : ℕ) → ((k : ℕ) → k < n → T (adds D k)) → n ≤ howMany (rounds n D 0)
+  pub grown : (n : ℕ) → Each n → n ≤ howMany (rounds n D 0)
   grown zero f = omega arith
   grown (suc n) f =
       let ih = grown n (λ k l. f k (omega arith)) in
@@ -132,28 +140,6 @@ module _ (D : List Definite) where
   chain-rules = few (chain D) chain-ends
 
 -- ---- of a program
--- a row gives at most one rule, so the reduct has no more rules than the program
-one-first : (cs b : List ℕ) (I : ℕ) → length (ifs (firstIn cs I) b) ≤ 1
-unfolding firstIn ifs
-one-first [] b I = omega arith
-one-first (c ∷ cs) b I = go (has I c) (one-first cs b I)
-  where
-    go : (t : Bool) → length (ifs (firstIn cs I) b) ≤ 1 → length (ifs (cond t (c ∷ []) (firstIn cs I)) b) ≤ 1
-    go true h = omega arith
-    go false h = h
-
-row-one : (r : Rule) (I : ℕ) → length (reductRow r I) ≤ 1
-row-one r I = subst (λ (D : List Definite). length D ≤ 1) (sym (row-first r I)) (go (noneIn (r .neg) I))
-  where
-    go : (b : Bool) → length (cond b (ifs (firstIn (r .head) I) (r .pos)) []) ≤ 1
-    go true = one-first (r .head) (r .pos) I
-    go false = omega arith
-
-reduct-length : (P : List Rule) (I : ℕ) → length (reduct P I) ≤ length P
-unfolding reduct gather
-reduct-length [] I = omega arith
-reduct-length (r ∷ P) I = omega (arith, length-append (reductRow r I) (gather (λ x. reductRow x I) P), row-one r I, reduct-length P I)
-
 -- a test that a's atoms alone pass, numbered from i on, is passed by no more numbers than a has atoms
 kept-few : (k a i : ℕ) (p : ℕ → Bool) → ((j : ℕ) → p (i + j) ≡ has a j) → length (keep p (numbers i k)) ≤ howMany a
 unfolding keep numbers

@@ -4,14 +4,16 @@ use mathlib.Core.Path.{_≡_, refl, sym, ap, _∙_, subst}
 use mathlib.Core.Bool.{Bool, true, false, _&&_, _||_, not, cond, or-false}
 use mathlib.Core.Logic.{_⊎_, inl, inr, ⊎-elim}
 use mathlib.Core.List.{List, [], _∷_, _++_, List·Memᴰ, List·Memᴰ·head, List·Memᴰ·tail, List·Memᴰ·cases-cons}
-use Prim.Native.Nat.{ℕ}
+use Prim.Native.Nat.{ℕ, _≤_}
+use native.Mathlib.Omega.{arith}
 use lib.Dec.{T}
+use lib.ListN.{length, length-append}
 use Rattle.atoms.specs.Atoms.{has}
 use Rattle.atoms.proofs.Truth.{true-yes}
-use Rattle.lpod.specs.Lists.{some}
+use Rattle.lpod.specs.Lists.{some, gather}
 use Rattle.lpod.specs.Rule.{Rule}
 use Rattle.lpod.specs.Satisfied.{someIn, noneIn}
-use Rattle.lpod.specs.Reduct.{Definite, reductHead, reductRow}
+use Rattle.lpod.specs.Reduct.{Definite, reductHead, reductRow, reduct}
 use Rattle.lpod.proofs.Lists.{some-append}
 
 -- the first of the atoms that is in I, alone in a list; none where none is
@@ -88,3 +90,26 @@ row-body r I d m = go (noneIn (r .neg) I) (subst (λ (D : List Definite). List·
     go : (b : Bool) → List·Memᴰ d (cond b (ifs (firstIn (r .head) I) (r .pos)) []) → d .body ≡ r .pos
     go true n = ifs-body (firstIn (r .head) I) (r .pos) d n
     go false n = elim n [ ]
+
+-- ---- how many
+-- a row gives at most one rule, so the reduct has no more rules than the program
+one-first : (cs b : List ℕ) (I : ℕ) → length (ifs (firstIn cs I) b) ≤ 1
+unfolding firstIn ifs
+one-first [] b I = omega arith
+one-first (c ∷ cs) b I = go (has I c) (one-first cs b I)
+  where
+    go : (t : Bool) → length (ifs (firstIn cs I) b) ≤ 1 → length (ifs (cond t (c ∷ []) (firstIn cs I)) b) ≤ 1
+    go true h = omega arith
+    go false h = h
+
+row-one : (r : Rule) (I : ℕ) → length (reductRow r I) ≤ 1
+row-one r I = subst (λ (D : List Definite). length D ≤ 1) (sym (row-first r I)) (go (noneIn (r .neg) I))
+  where
+    go : (b : Bool) → length (cond b (ifs (firstIn (r .head) I) (r .pos)) []) ≤ 1
+    go true = one-first (r .head) (r .pos) I
+    go false = omega arith
+
+pub reduct-length : (P : List Rule) (I : ℕ) → length (reduct P I) ≤ length P
+unfolding reduct gather
+reduct-length [] I = omega arith
+reduct-length (r ∷ P) I = omega (arith, length-append (reductRow r I) (gather (λ x. reductRow x I) P), row-one r I, reduct-length P I)

@@ -1,5 +1,5 @@
 // Reads a flag word, a first and a last set (two bytes each, low first) and a page from standard input. For each set from the first to the last
-// it prints the set's atoms and how many rounds it takes to the set. A refusal is printed as its number and ends the list.
+// it prints the set's atoms and how many rounds add something on the way to the set. A refusal is printed as its number and ends the list.
 use libc::STDIN_FILENO;
 use libc::STDOUT_FILENO;
 use page::fields;
@@ -9,6 +9,12 @@ use routes::reduct;
 fn say(word: &[u8], number: u64) {
     io::write_all(STDOUT_FILENO, word);
     io::print_decimal(STDOUT_FILENO, number);
+}
+
+// The line of a refusal.
+fn say_refused(number: u16) {
+    say(b"refused ", number as u64);
+    io::write_all(STDOUT_FILENO, b"\n");
 }
 
 // The atoms of a set, rising: the lowest, and then those of the rest.
@@ -25,8 +31,7 @@ fn say_atoms(set: u16) {
 fn say_set(page: &[u8], flags: u16, set: u16) -> bool {
     let counted = reduct::rounds(page, flags, set);
     if counted.no != 0 {
-        say(b"refused ", counted.no as u64);
-        io::write_all(STDOUT_FILENO, b"\n");
+        say_refused(counted.no);
         return false;
     }
     say(b"set ", set as u64);
@@ -54,8 +59,7 @@ fn say_sets(page: &[u8], flags: u16, first: u16, last: u16) {
 // The input: a flag word, two sets and the page. Where it breaks off before the page, the page is too short.
 fn say_input(input: &[u8]) {
     if input.len() < 6 {
-        say(b"refused ", 1);
-        io::write_all(STDOUT_FILENO, b"\n");
+        say_refused(1);
         return;
     }
     say_sets(

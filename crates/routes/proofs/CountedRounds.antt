@@ -23,13 +23,13 @@ use Rattle.routes.specs.Rounds.{roundsWith, roundsTo, RoundsSays}
 use Rattle.routes.specs.declared.reduct.Counted.{Counted}
 
 module _ (n k c : ℕ) (e : k ≡ n) where
-  pub uncounted : (k ≡ 0 → ⊥) → _≡_ {A = Counted} (record { no = k; count = 0 }) (roundsWith n c)
+  pub rounds-refused : (k ≡ 0 → ⊥) → _≡_ {A = Counted} (record { no = k; count = 0 }) (roundsWith n c)
   unfolding roundsWith
-  uncounted z = rw (← e, ne-eqb k 0 z)
+  rounds-refused z = rw (← e, ne-eqb k 0 z)
 
-  pub counted : k ≡ 0 → (x : ℕ) → x ≡ c → _≡_ {A = Counted} (record { no = 0; count = x }) (roundsWith n c)
+  pub rounds-given : k ≡ 0 → (x : ℕ) → x ≡ c → _≡_ {A = Counted} (record { no = 0; count = x }) (roundsWith n c)
   unfolding roundsWith
-  counted z x ex = rw (← e, z, ex)
+  rounds-given z x ex = rw (← e, z, ex)
 
 -- what bounds the chain bounds the answer, which is 0 where the call is refused
 at-most : (n c most : ℕ) → c ≤ most → roundsWith n c .count ≤ most
@@ -40,10 +40,10 @@ at-most n c most l = go (eqb n 0)
     go true = l
     go false = omega arith
 
-rows-many : (page : List ℕ) (r i n : ℕ) → length (rowsFrom page r i n) ≡ n
+page-rows-many : (page : List ℕ) (r i n : ℕ) → length (rowsFrom page r i n) ≡ n
 unfolding rowsFrom
-rows-many page r i zero = refl
-rows-many page r i (suc n) = ap suc (rows-many page (r + 1) (i + literalsOf page r) n)
+page-rows-many page r i zero = refl
+page-rows-many page r i (suc n) = ap suc (page-rows-many page (r + 1) (i + literalsOf page r) n)
 
 module _ (page : List ℕ) (flags set : ℕ) (r : Counted) (says : RoundsSays page flags set r) where
   few : (most : ℕ) → chainTo (program page flags) set ≤ most → r .count ≤ most
@@ -55,7 +55,7 @@ module _ (page : List ℕ) (flags set : ℕ) (r : Counted) (says : RoundsSays pa
 
   pub rounds-rows : r .count ≤ rowCount page + howMany flags
   unfolding program rowsOf
-  rounds-rows = few (rowCount page + howMany flags) (omega (arith, chain-rows (program page flags) set, rows-many page 0 (literalsAt page) (rowCount page)))
+  rounds-rows = few (rowCount page + howMany flags) (omega (arith, chain-rows (program page flags) set, page-rows-many page 0 (literalsAt page) (rowCount page)))
 
   -- the rules by which the rounds go
   abbrev given : List Definite

@@ -8,16 +8,15 @@ use native.Mathlib.Decide.{ℕ-discrete}
 use native.Mathlib.Numerals.{add-one}
 use native.Mathlib.Omega.{arith}
 use lib.Arith.{lt-of-le-ne}
-use lib.Dec.{T}
 use Rattle.atoms.specs.Atoms.{Inside, howMany}
 use Rattle.atoms.proofs.Bits.{inside-le}
 use Rattle.atoms.proofs.Count.{many-more}
 use Rattle.lpod.specs.Rule.{Rule}
 use Rattle.lpod.specs.Reduct.{Definite, reduct}
 use Rattle.lpod.specs.Least.{fire, rounds, least, Closed}
-use Rattle.lpod.specs.Chain.{adds, chain}
+use Rattle.lpod.specs.Chain.{chain}
 use Rattle.lpod.proofs.LeastClosed.{fire-keeps, fire-inside, rounds-inside, empty-inside, closed-fixed, fixed-closed, is-least}
-use Rattle.lpod.proofs.Chains.{Quiet, rounds-next, more-adds, chain-found, grown}
+use Rattle.lpod.proofs.Chains.{Quiet, Each, rounds-next, one-more, chain-found, grown}
 use Rattle.lpod.proofs.ReductIsHereThere.{self-closed}
 
 abbrev pub Smallest : List Definite → ℕ → Type 0
@@ -43,7 +42,7 @@ small-whole P I s f e = sym (is-least (reduct P I) s .1 (record { itself = subst
 -- ---- the rounds counted: n of them, each of which added something, have come to s
 pub record Made (D : List Definite) (n s : ℕ) : Type 0 where
   pub come : s ≡ rounds n D 0
-  pub each : (k : ℕ) → k < n → T (adds D k)
+  pub each : Each D n
 
 pub made-start : (D : List Definite) → Made D 0 0
 unfolding rounds
@@ -55,18 +54,18 @@ module _ (D : List Definite) (n s t : ℕ) (e : t ≡ fire D s s) (m : Made D n 
 
   -- a round that adds something is one more; one that adds nothing is the end
   pub made-round : (t ≡ s → ⊥) → Made D (n + 1) t
-  made-round d = record { come = sym next ∙ ap (λ (k : ℕ). rounds k D 0) (sym (add-one n)); each = λ k l. at k (ℕ-discrete k n) l }
-    where
-      at : (k : ℕ) → Dec (k ≡ n) → k < n + 1 → T (adds D k)
-      at k (yes p) l = subst (λ (j : ℕ). T (adds D j)) (sym p) (more-adds D n (λ q. d (sym next ∙ q ∙ sym (m .come))))
-      at k (no p) l = m .each k (omega arith)
+  made-round d =
+      record {
+        come = sym next ∙ ap (λ (k : ℕ). rounds k D 0) (sym (add-one n));
+        each = λ k l. one-more D n (m .each) (λ q. d (sym next ∙ q ∙ sym (m .come))) k (omega arith);
+      }
 
   pub made-quiet : t ≡ s → n ≡ chain D
   made-quiet q = sym (chain-found D n (record { first = m .each; next = next ∙ q ∙ m .come }))
 
 -- as many as the set has atoms have come to the set itself
-pub made-whole : (P : List Rule) (I n s most : ℕ) → most ≡ howMany I → most ≤ n → Made (reduct P I) n s → n ≡ chain (reduct P I)
-made-whole P I n s most em l m = sym (chain-found D n (record { first = m .each; next = go (ℕ-discrete X I) }))
+pub made-whole : (P : List Rule) (I n s : ℕ) → howMany I ≤ n → Made (reduct P I) n s → n ≡ chain (reduct P I)
+made-whole P I n s l m = sym (chain-found D n (record { first = m .each; next = go (ℕ-discrete X I) }))
   where
     D : List Definite
     D = reduct P I
@@ -79,4 +78,4 @@ made-whole P I n s most em l m = sym (chain-found D n (record { first = m .each;
     go (no d) =
         let many = grown D n (m .each) in
         let more = many-more X I (rounds-inside n D 0 I (self-closed P I) (empty-inside I)) d in
-        absurd (omega (arith, em))
+        absurd (omega arith)

@@ -99,8 +99,8 @@ pub fn reduct_test(page: &[u8], flags: u16, set: u16) -> Verdict
     Verdict { no: 0, yes }
 }
 
-// How many rounds from the empty set add something. Each brings in an atom of `set`, so there are no more of them than the set has atoms; after as many
-// the set itself is reached, to which nothing is added.
+// How many rounds from the empty set add something. Each brings in an atom of `set`, so there are no more of them than the set has atoms;
+// after as many the set itself is reached, to which nothing is added.
 fn count_rounds(rows: &[u64], flags: u16, set: u16) -> u32
     ensures { λ r. ⌜ r ≡ chain (reduct (rulesWith (now (rows .entry)) flags) set) ⌝ }
 {
@@ -124,7 +124,7 @@ pub struct Counted {
     pub count: u32,
 }
 
-// How many rounds it takes by the reduct for `set`, an answer set or not: refusals 1 to 9, then the count.
+// How many rounds add something by the reduct for `set`, an answer set or not: refusals 1 to 9, then the count.
 pub fn rounds(page: &[u8], flags: u16, set: u16) -> Counted
     ensures { λ r. ⌜ RoundsSays (now (page .entry)) flags set r ⌝ }
 {

@@ -41,7 +41,7 @@ loop-again c =
     made-round _ _ _ (r .result) (r .ensures) (c .before .before .before .loop .inv) (c .if1 .left)
 
 returns-2 : tie.Need-returns-2 Inv-loop μ-loop
-returns-2 c = made-whole _ _ _ _ _ (c .before .before .how-many .ensures) (c .loop-test .left) (c .before .loop .inv)
+returns-2 c = made-whole _ _ _ _ (omega (arith, c .before .before .how-many .ensures)) (c .before .loop .inv)
 
 pub count-rounds-spec : {M : Type 1} → statement M
 count-rounds-spec =

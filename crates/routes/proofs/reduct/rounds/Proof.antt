@@ -8,7 +8,7 @@ use Rattle.lpod.specs.Reduct.{reduct}
 use Rattle.lpod.specs.Chain.{chain, chainTo}
 use Rattle.words.proofs.Lent.{words-many, lent-rules, test-page}
 use Rattle.routes.specs.Rounds.{roundsTo}
-use Rattle.routes.proofs.CountedRounds.{uncounted, counted}
+use Rattle.routes.proofs.CountedRounds.{rounds-refused, rounds-given}
 use Rattle.routes.proofs.reduct.rounds.Statement.{statement}
 use Rattle.routes.proofs.reduct.rounds.Tie as tie
 
@@ -17,7 +17,7 @@ test-no-requires c κs = search needs
 
 returns : tie.Need-returns
 unfolding roundsTo
-returns c = uncounted _ _ _ (c .before .test-no .ensures) (c .if1 .taken)
+returns c = rounds-refused _ _ _ (c .before .test-no .ensures) (c .if1 .taken)
 
 row-total-requires : tie.Need-row-total-requires
 row-total-requires c κs = search needs
@@ -44,7 +44,7 @@ returns-2 c =
     let a = k .before .before .args in
     let h = test-page _ _ _ _ (k .test-no .ensures) (z .if1 .left) in
     let e = lent-rules (now (a .page)) h _ _ (n .row-total .ensures .0) (r .row-words .ensures .1) (a .flags) in
-    counted _ _ _ (k .test-no .ensures) (z .if1 .left) _ (c .count-rounds .ensures ∙ ap (λ (P : List Rule). chain (reduct P (a .set))) e)
+    rounds-given _ _ _ (k .test-no .ensures) (z .if1 .left) _ (c .count-rounds .ensures ∙ ap (λ (P : List Rule). chain (reduct P (a .set))) e)
 
 pub rounds-spec : {M : Type 1} → statement M
 rounds-spec =
