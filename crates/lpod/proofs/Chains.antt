@@ -70,7 +70,7 @@ module _ (D : List Definite) where
       at (yes e) = subst (λ (j : ℕ). T (adds D j)) (sym e) (more-adds n d)
       at (no e) = f k (omega arith)
 
-  -- after such a round nothing changes any more
+  -- after a quiet round nothing changes any more
   quiet-on : (n : ℕ) → Quiet n → (k : ℕ) → n ≤ k → rounds k D 0 ≡ rounds n D 0
   quiet-on n q zero l = ap (λ (j : ℕ). rounds j D 0) (omega arith)
   quiet-on n q (suc k) l = go (ℕ-discrete n (suc k)) (quiet-on n q k)
@@ -128,9 +128,9 @@ module _ (D : List Definite) where
   grown zero f = omega arith
   grown (suc n) f =
       let ih = grown n (λ k l. f k (omega arith)) in
-      let more =
-      many-more (rounds n D 0) (rounds (suc n) D 0) (subst (λ (x : ℕ). Inside (rounds n D 0) x) (sym (rounds-next n D 0)) (fire-keeps D (rounds n D 0) (rounds n D 0)))
-      (λ e. adds-more n (f n (omega arith)) (sym e)) in
+      let s = rounds n D 0 in
+      let kept = subst (λ (x : ℕ). Inside s x) (sym (rounds-next n D 0)) (fire-keeps D s s) in
+      let more = many-more s (rounds (suc n) D 0) kept (λ e. adds-more n (f n (omega arith)) (sym e)) in
       omega arith
 
   pub chain-atoms : chain D ≤ howMany (least D)
@@ -173,8 +173,8 @@ module _ (p : Program) (s : ℕ) where
       omega
       (arith, chain-rules (reduct (rules p) s), reduct-length (p .rows ++ raised (p .flags)) s, length-append (p .rows) (raised (p .flags)), raised-length (p .flags))
 
--- ---- an example: `a`; `b if a`; `c if b`. Three rounds to all three atoms; none to b and c alone, which nothing begins. With b raised two: a and b
--- come together
+-- ---- an example: `a`; `b if a`; `c if b`. Three rounds for all three atoms; none for b and c alone, which nothing begins; with b raised two, since a
+-- and b come together
 pub steps : ℕ → Program
 steps flags =
     record {
