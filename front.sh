@@ -22,23 +22,23 @@ without_zeros() {
     done
 }
 
-# hex_digits TEXT: puts the digits of 0x.. into `digits`
+# hex_digits WHAT TEXT: puts the digits of 0x.. into `digits`; WHAT is what the number stands for
 hex_digits() {
-    case $1 in
-    0[xX] | 0[xX]*[!0-9a-fA-F]*) bad "no number: '$1'" ;;
+    case $2 in
+    0[xX] | 0[xX]*[!0-9a-fA-F]*) bad "$1 is a number, and this is none: '$2'" ;;
     esac
-    without_zeros "${1#0?}"
+    without_zeros "${2#0?}"
 }
 
 # word_of WHAT TEXT: puts the number that TEXT says, from 0 to 65535, into `word`; WHAT is what the number stands for
 word_of() {
     case $2 in
     0[xX]*)
-        hex_digits "$2"
+        hex_digits "$1" "$2"
         [ "${#digits}" -le 4 ] || bad "$1 is at most 0xffff: $2"
         word=$((0x$digits))
         ;;
-    '' | *[!0-9]*) bad "no number: '$2'" ;;
+    '' | *[!0-9]*) bad "$1 is a number, and this is none: '$2'" ;;
     *)
         without_zeros "$2"
         { [ "${#digits}" -le 5 ] && [ "$digits" -le 65535 ]; } || bad "$1 is at most 65535: $2"

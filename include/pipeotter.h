@@ -19,8 +19,8 @@
      The letter is a plain byte. The display returns 64 bits, with macros of its own: such a word in the upper half, and
      a reading's bits in the lower.
      Number 0 is "accepted". Look at the number first: the value 0 is also a good value (the empty set, a count of 0).
-     Where several refusals hold, the lowest number of the call's own list is returned. Each number is returned
-     exactly when its condition holds, so it can be relied on as a diagnosis.
+     Where several refusals hold, the lowest number of the call's own list is returned. Each number is returned exactly
+     when its condition holds and none before it in the list does, so it can be relied on as a diagnosis.
      A refused call has the value 0 (the display: no number) and leaves all lent memory as it was, entry for entry.
 
    What the proof covers

@@ -82,6 +82,9 @@ unusable examples/two.page 1 2
 unusable --rounds
 unusable --rounds examples/two.page 1 2
 unusable --rounds --rounds examples/two.page
+unusable --round examples/two.page
+grep -q "option: '--round'" "$made/err"
+verdict 'an option that there is not: the words name it'
 unusable examples/two.page --rounds
 unusable examples/two.page ''
 unusable examples/two.page -1
