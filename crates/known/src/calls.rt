@@ -22,7 +22,7 @@ pub fn reduct(page: &[u8], flags: u16, set: u16) {
     say::words(b"\n");
 }
 
-// The rounds that it takes to one set.
+// How many rounds add something on the way to one set.
 pub fn rounds(page: &[u8], flags: u16, set: u16) {
     let r = reduct::rounds(page, flags, set);
     say::with(b"  rounds to ", set as u64);
