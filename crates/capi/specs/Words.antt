@@ -13,7 +13,7 @@ use Rattle.page.specs.Program.{program}
 use Rattle.routes.specs.Tests.{reductTest, hereThereTest}
 use Rattle.routes.specs.Split.{splitTest}
 use Rattle.routes.specs.Rounds.{roundsTo}
-use Rattle.engine.specs.Entries.{stored}
+use Rattle.lanes.specs.Entries.{stored}
 use Rattle.engine.specs.Calls.{picked, pickNo, listed, listNo}
 use Rattle.engine.specs.Degrees.{graded, degreesNo, degreesAfter}
 use Rattle.engine.specs.Compare.{compared, compareNo}

@@ -35,7 +35,7 @@ use Rattle.routes.specs.Rounds.{roundsWith, roundsTo, RoundsSays}
 use Rattle.routes.specs.declared.Verdict.{Verdict}
 use Rattle.routes.specs.declared.reduct.Counted.{Counted}
 use Rattle.routes.proofs.SplitCounts.{split-says, split-gives}
-use Rattle.engine.specs.Entries.{stored}
+use Rattle.lanes.specs.Entries.{stored}
 use Rattle.engine.specs.Calls.{listRefusals, listNo, listed, SetsSay, ListSays, BestSays, isEmpty, pickRefusals, pickNo, setOr, picked, PickSays}
 use Rattle.engine.specs.Degrees.{degreesRefusals, degreesNo, graded, degreesAfter, DegreesSays}
 use Rattle.engine.specs.Compare.{compareRefusals, compareNo, compared, CompareSays}

@@ -13,7 +13,7 @@ use Rattle.lpod.specs.Lists.{every}
 use Rattle.lpod.proofs.Lists.{every-append}
 use Rattle.page.specs.Refusals.{Refusal, refuse, firstThat, noneHolds, numbered, FirstOf}
 use Rattle.page.proofs.Refusals.{none-given, given-none, first-given, given-first}
-use Rattle.engine.specs.Entries.{over}
+use Rattle.lanes.specs.Entries.{over}
 
 -- n is the number of the first refusal of the list that holds, and 0 exactly where none does
 pub record Given (l : List Refusal) (n : ℕ) : Type 0 where

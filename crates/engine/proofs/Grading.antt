@@ -16,7 +16,7 @@ use Rattle.page.specs.Refusals.{Refusal, refuse, firstThat, numbered, testRefus
 use Rattle.page.proofs.Refusals.{test-numbered, given-append, given-denied}
 use Rattle.words.specs.Coded.{programIn, rowTotal, pairTotal, rowWords, pairWords}
 use Rattle.words.proofs.Lent.{words-many, test-page, lent-count, lent-answer}
-use Rattle.engine.specs.Entries.{over}
+use Rattle.lanes.specs.Entries.{over}
 use Rattle.engine.specs.Degrees.{degreesRefusals, degreesNo, graded, degreesAfter, DegreesSays}
 use Rattle.engine.proofs.Refused.{refused-first, refused-later}
 

@@ -4,17 +4,8 @@ pub mod Refused
 pub mod Stored
 pub mod Grading
 pub mod Comparing
-pub mod Seek
-pub mod Heads
-pub mod Champion
 pub mod LastRefusal
 pub mod SetsStored
-pub mod Kept
-pub mod Tried
-pub mod Blocks
-pub mod Shifts
-pub mod MarkedWords
-pub mod EmptyBlocks
 pub mod AnswerSets
 pub mod Picks
 pub mod Given

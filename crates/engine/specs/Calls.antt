@@ -11,7 +11,7 @@ use Rattle.lpod.specs.Answer.{answerSets}
 use Rattle.lpod.specs.Best.{bestSets, pick}
 use Rattle.page.specs.Program.{program}
 use Rattle.page.specs.Refusals.{Refusal, refuse, firstThat, flagRefusals}
-use Rattle.engine.specs.Entries.{stored}
+use Rattle.lanes.specs.Entries.{stored}
 use Rattle.engine.specs.declared.list.Listed.{Listed}
 use Rattle.engine.specs.declared.list.Which.{Which}
 use Rattle.engine.specs.declared.list.Which.the-variants.{All, Best}

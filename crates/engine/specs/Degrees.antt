@@ -10,7 +10,7 @@ use Rattle.lpod.specs.Degree.{degrees}
 use Rattle.page.specs.Fields.{rowCount}
 use Rattle.page.specs.Program.{program}
 use Rattle.page.specs.Refusals.{Refusal, refuse, firstThat, testRefusals}
-use Rattle.engine.specs.Entries.{over}
+use Rattle.lanes.specs.Entries.{over}
 use Rattle.engine.specs.declared.degrees.Graded.{Graded}
 
 -- after the page, the flag word and the set: 11 where there is room for fewer degrees than the page has rows, then 13 where the set is no answer set

@@ -1,9 +1,5 @@
-pub mod Entries
 pub mod Calls
 pub mod Compare
 pub mod Degrees
 pub mod Lists
-pub mod Marks
 pub mod Rank
-pub mod Search
-pub mod Seek

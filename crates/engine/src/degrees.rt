@@ -10,7 +10,7 @@ ghost use Rattle.lpod.specs.Answer.{answer};
 ghost use Rattle.lpod.specs.Degree.{degree};
 ghost use Rattle.page.specs.Refusals.{refuse, firstThat};
 ghost use Rattle.words.specs.Coded.{rulesIn, programIn};
-ghost use Rattle.engine.specs.Entries.{over};
+ghost use Rattle.lanes.specs.Entries.{over};
 ghost use Rattle.engine.specs.Degrees as means;
 use page::accept;
 use routes::reduct;

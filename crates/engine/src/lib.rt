@@ -4,7 +4,5 @@ pub mod best;
 pub mod compare;
 pub mod degrees;
 pub mod list;
-mod marks;
 pub mod pick;
 pub mod rank;
-mod search;

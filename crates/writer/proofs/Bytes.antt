@@ -14,8 +14,8 @@ use Rattle.atoms.proofs.Truth.{yes-true, true-yes, and-l, and-r}
 use Rattle.lpod.specs.Lists.{every}
 use Rattle.page.specs.Fields.{byteAt}
 use Rattle.page.proofs.Accepted.{InRanges}
-use Rattle.engine.specs.Entries.{over}
-use Rattle.engine.proofs.Stored.{over-sets}
+use Rattle.lanes.specs.Entries.{over}
+use Rattle.lanes.proofs.Stored.{over-sets}
 use Rattle.writer.specs.Content.{Content, rowTotal, headerFields, twoBytes, fourBytes, header, parts, encode}
 
 -- ---- two bytes for a number

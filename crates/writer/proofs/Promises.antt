@@ -11,7 +11,7 @@ use Rattle.page.specs.Program.{program}
 use Rattle.page.specs.Refusals.{firstThat, numbered, pageNo}
 use Rattle.page.proofs.Refusals.{given-append}
 use Rattle.page.proofs.RowSteps.{Bytes}
-use Rattle.engine.specs.Entries.{over, stored}
+use Rattle.lanes.specs.Entries.{over, stored}
 use Rattle.engine.proofs.Refused.{refused-later}
 use Rattle.engine.proofs.Given.{Given, given, numbered-append, entries-first, entries-later, where-refused, where-accepted}
 use Rattle.writer.specs.Content.{Content, encode, contentOf}

@@ -8,7 +8,7 @@ use lib.ListN.{length, take, length-append, drop-of-length-le}
 use lib.Seq.{take-at}
 use borrow.Author.Tests.{ne-eqb, lt-ltb, le-ltb}
 use Rattle.page.specs.Refusals.{firstThat}
-use Rattle.engine.specs.Entries.{over, stored}
+use Rattle.lanes.specs.Entries.{over, stored}
 use Rattle.engine.proofs.Refused.{refused-first, refused-later}
 use Rattle.writer.specs.Content.{Content, encode}
 use Rattle.writer.specs.Writes.{contentRefusals, contentNo, roomRefusals, writeRefusals, writeNo, written, WriteSays}

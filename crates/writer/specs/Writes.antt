@@ -6,7 +6,7 @@ use Prim.Native.Nat.{ℕ, _%_}
 use lib.Dec.{eqb, ltb}
 use lib.ListN.{length}
 use Rattle.page.specs.Refusals.{Refusal, refuse, firstThat, countsOut, partRefusals}
-use Rattle.engine.specs.Entries.{stored}
+use Rattle.lanes.specs.Entries.{stored}
 use Rattle.writer.specs.Content.{Content, rowTotal, pairTotal, encode}
 use Rattle.writer.specs.declared.Written.{Written}
 

@@ -5,7 +5,7 @@ ghost use mathlib.Core.Bool.{false};
 ghost use Prim.Native.Nat.{_+_, _*_, _/_, _≤_, _<_};
 ghost use lib.ListN.{length};
 ghost use lib.Seq.{sets};
-ghost use Rattle.engine.specs.Entries.{over};
+ghost use Rattle.lanes.specs.Entries.{over};
 ghost use Rattle.page.specs.Fields.{byteAt};
 ghost use Rattle.page.specs.Refusals.{countsOut};
 ghost use Rattle.writer.specs.Content.{content, headerFields, twoBytes, fourBytes, encode};

@@ -9,7 +9,7 @@ use lib.Seq.{sets, length-take-le}
 use borrow.Author.Needs.{needs}
 use Rattle.page.specs.Refusals.{pageNo}
 use Rattle.page.proofs.Refusals.{first-here}
-use Rattle.engine.proofs.Stored.{over-sets}
+use Rattle.lanes.proofs.Stored.{over-sets}
 use Rattle.writer.specs.Content.{Content, content, encode}
 use Rattle.writer.specs.Writes.{sizesOut, contentRefusals, contentNo}
 use Rattle.writer.proofs.Encoding.{same-number}

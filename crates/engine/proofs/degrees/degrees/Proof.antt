@@ -9,7 +9,7 @@ use borrow.Author.Needs.{needs}
 use Rattle.lpod.specs.Rule.{Rule}
 use Rattle.lpod.specs.Degree.{degree}
 use Rattle.words.proofs.Lent.{words-many, test-page, lent-count, lent-rows}
-use Rattle.engine.specs.Entries.{over}
+use Rattle.lanes.specs.Entries.{over}
 use Rattle.engine.proofs.Grading.{number-tested, number-last, grading-refused, grading-room, grading-given}
 use Rattle.engine.proofs.degrees.degrees.Statement.{statement}
 use Rattle.engine.proofs.degrees.degrees.Tie as tie

@@ -10,7 +10,8 @@ use lib.Seq.{sets}
 use Rattle.lpod.specs.Degree.{degree}
 use Rattle.words.specs.Coded.{ruleIn, rulesIn}
 use Rattle.words.proofs.Rest.{rest-step, rest-none}
-use Rattle.engine.proofs.Stored.{over-sets, sets-go, sets-end, degrees-length}
+use Rattle.lanes.proofs.Stored.{over-sets}
+use Rattle.engine.proofs.Stored.{sets-go, sets-end, degrees-length}
 use Rattle.engine.proofs.degrees.store.Statement.{statement}
 use Rattle.engine.proofs.degrees.store.Tie as tie
 

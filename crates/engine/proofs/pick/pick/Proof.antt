@@ -1,12 +1,22 @@
 -- `pick::pick` refuses by the first refusal; else it gives the least best set that is found, or 10 where none is. On an accepted page the words mean
 -- its program. Assumes nothing.
+use mathlib.Core.Path.{ap, _∙_}
 use denote.Ref.{now}
-use borrow.Author.Needs.{needs}
 use Rattle.words.proofs.Lent.{words-many}
-use Rattle.engine.proofs.AnswerSets.{made}
+use Rattle.lanes.specs.Sets.{numberOf}
+use Rattle.engine.proofs.AnswerSets.{made-pick}
 use Rattle.engine.proofs.Picks.{pick-refused, pick-none, pick-found}
+use borrow.Author.Needs.{needs}
 use Rattle.engine.proofs.pick.pick.Statement.{statement}
 use Rattle.engine.proofs.pick.pick.Tie as tie
+use Rattle.engine.proofs.pick.pick.Reads as reads
+use Rattle.engine.proofs.pick.pick.Lts as lts
+use Rattle.lanes.proofs.sets.pick.Reads as pick-reads
+use Rattle.page.proofs.accept.flag_no.Reads as flag-no-reads
+use Rattle.words.proofs.read.pair_total.Reads as pair-total-reads
+use Rattle.words.proofs.read.pair_words.Reads as pair-words-reads
+use Rattle.words.proofs.read.row_total.Reads as row-total-reads
+use Rattle.words.proofs.read.row_words.Reads as row-words-reads
 
 flag-no-requires : tie.Need-flag-no-requires
 flag-no-requires c κs = search needs
@@ -31,26 +41,17 @@ pair-words-requires c κs = search needs
 array-share-prefix-rows : tie.Need-array-share-prefix-rows
 array-share-prefix-rows c = search needs
 
-slice-aggregate-top-of : tie.Need-slice-aggregate-top-of
-slice-aggregate-top-of c = words-many _ _ (array-share-prefix-rows (c .before))
-
-top-of-requires : tie.Need-top-of-requires
-top-of-requires c κs = search needs
-
-array-share-prefix-rows-2 : tie.Need-array-share-prefix-rows-2
-array-share-prefix-rows-2 c = search needs
-
-slice-aggregate-first-best : tie.Need-slice-aggregate-first-best
-slice-aggregate-first-best c = words-many _ _ (array-share-prefix-rows-2 (c .before))
+slice-aggregate-pick : tie.Need-slice-aggregate-pick
+slice-aggregate-pick c = words-many _ _ (array-share-prefix-rows (c .before))
 
 array-share-prefix-pairs : tie.Need-array-share-prefix-pairs
 array-share-prefix-pairs c = search needs
 
-slice-aggregate-first-best-2 : tie.Need-slice-aggregate-first-best-2
-slice-aggregate-first-best-2 c = words-many _ _ (array-share-prefix-pairs (c .before))
+slice-aggregate-pick-2 : tie.Need-slice-aggregate-pick-2
+slice-aggregate-pick-2 c = words-many _ _ (array-share-prefix-pairs (c .before))
 
-first-best-requires : tie.Need-first-best-requires
-first-best-requires c κs = search needs
+pick-requires : tie.Need-pick-requires
+pick-requires c κs = search needs
 
 cast-set : tie.Need-cast-set
 cast-set c = search needs
@@ -58,8 +59,7 @@ cast-set c = search needs
 returns-2 : tie.Need-returns-2
 returns-2 c =
     let m = c .before in
-    let t = m .before .before .before in
-    let p = t .before .before in
+    let p = m .before .before .before in
     let q = p .before in
     let r = q .before in
     let n = r .before in
@@ -67,18 +67,17 @@ returns-2 c =
     let k = z .before in
     let start = k .before .before in
     let a = start .args in
-    let f =
-    made (now (a .page)) (a .flags) (k .flag-no .result) (k .flag-no .ensures) (z .if1 .left) (n .row-total .result) (r .row-words .result) (n .row-total .ensures .0)
-    (r .row-words .ensures .1) (q .pair-total .result) (p .pair-words .result) (q .pair-total .ensures .0) (p .pair-words .ensures .1) (t .top-of .result)
-    (t .top-of .ensures) in
-    pick-found (now (a .page)) (a .flags) (k .flag-no .result) (k .flag-no .ensures) (start .fits .flags .fits) (z .if1 .left) _ (m .first-best .result) (f .marks-are)
-    _ (f .ranks-as) (m .first-best .ensures) (c .if2 .taken)
+    let e =
+    made-pick (now (a .page)) (a .flags) (k .flag-no .result) (start .fits .flags .fits) (k .flag-no .ensures) (z .if1 .left) (n .row-total .result) (r .row-words .result)
+    (n .row-total .ensures) (r .row-words .ensures .0, r .row-words .ensures .1) (q .pair-total .result) (p .pair-words .result) (q .pair-total .ensures .0)
+    (p .pair-words .ensures .1) in
+    pick-found (now (a .page)) (a .flags) (k .flag-no .result) (k .flag-no .ensures) (start .fits .flags .fits) (z .if1 .left) (m .pick .result)
+    (m .pick .ensures ∙ ap numberOf e) (c .if2 .taken)
 
 returns-3 : tie.Need-returns-3
 returns-3 c =
     let m = c .before in
-    let t = m .before .before .before in
-    let p = t .before .before in
+    let p = m .before .before .before in
     let q = p .before in
     let r = q .before in
     let n = r .before in
@@ -86,12 +85,12 @@ returns-3 c =
     let k = z .before in
     let start = k .before .before in
     let a = start .args in
-    let f =
-    made (now (a .page)) (a .flags) (k .flag-no .result) (k .flag-no .ensures) (z .if1 .left) (n .row-total .result) (r .row-words .result) (n .row-total .ensures .0)
-    (r .row-words .ensures .1) (q .pair-total .result) (p .pair-words .result) (q .pair-total .ensures .0) (p .pair-words .ensures .1) (t .top-of .result)
-    (t .top-of .ensures) in
-    pick-none (now (a .page)) (a .flags) (k .flag-no .result) (k .flag-no .ensures) (start .fits .flags .fits) (z .if1 .left) _ (m .first-best .result) (f .marks-are)
-    _ (f .ranks-as) (m .first-best .ensures) (c .if2 .left)
+    let e =
+    made-pick (now (a .page)) (a .flags) (k .flag-no .result) (start .fits .flags .fits) (k .flag-no .ensures) (z .if1 .left) (n .row-total .result) (r .row-words .result)
+    (n .row-total .ensures) (r .row-words .ensures .0, r .row-words .ensures .1) (q .pair-total .result) (p .pair-words .result) (q .pair-total .ensures .0)
+    (p .pair-words .ensures .1) in
+    pick-none (now (a .page)) (a .flags) (k .flag-no .result) (k .flag-no .ensures) (start .fits .flags .fits) (z .if1 .left) (m .pick .result)
+    (m .pick .ensures ∙ ap numberOf e) (c .if2 .left)
 
 pub pick-spec : {M : Type 1} → statement M
 pick-spec =
@@ -104,13 +103,10 @@ pick-spec =
     pair-total-requires
     pair-words-requires
     array-share-prefix-rows
-    slice-aggregate-top-of
-    top-of-requires
-    array-share-prefix-rows-2
-    slice-aggregate-first-best
+    slice-aggregate-pick
     array-share-prefix-pairs
-    slice-aggregate-first-best-2
-    first-best-requires
+    slice-aggregate-pick-2
+    pick-requires
     cast-set
     returns-2
     returns-3)

@@ -1,0 +1,226 @@
+-- The atoms of a set one after the other, the lowest first, and the two parts of a body: the lowest six atoms, which the lane's number decides, and
+-- the others, which the block decides. Assumes nothing.
+use mathlib.Core.Path.{_≡_, refl, sym, ap, _∙_, subst}
+use mathlib.Core.Bool.{Bool, true, false, _&&_, _||_, not, and-true, and-false}
+use mathlib.Core.List.{List, [], _∷_}
+use Prim.Native.Nat.{ℕ, _+_, _-_, _*_, _/_, _%_, _^_, _≤_, _<_}
+use native.Mathlib.Decide.{ℕ-discrete, decLt}
+use native.Mathlib.Omega.{arith}
+use lib.Arith.{lt-of-le-ne}
+use lib.Bits.{bitAnd}
+use lib.Dec.{T, eqb, eqb→eq, eqb-refl, T-not, not-T}
+use lib.ListN.{length, getD, set}
+use lib.Seq.{getD-set-same, getD-set-other}
+use Rattle.atoms.specs.Atoms.{has, inside, common, lowest}
+use Rattle.atoms.proofs.Truth.{and-l, and-r, both, same-yes, true-yes, no-false}
+use Rattle.atoms.proofs.Bits.{has-and, has-zero, has-single, has-below, has-high, inside-test, test-inside, inside-le, shl-single}
+use Rattle.atoms.proofs.Count.{lowest-in}
+use Rattle.lpod.specs.Lists.{every, some, keep, numbers, below}
+use Rattle.lpod.proofs.Lists.{every-at, every-made, keep-in, in-keep, numbers-in}
+use Rattle.lpod.specs.Satisfied.{allIn, someIn, noneIn, bodyHolds}
+use Rattle.words.specs.Coded.{atomsIn, posSet, negSet, ruleIn}
+use Rattle.words.proofs.Bodies.{body-all, body-some}
+use borrow.Author.Tests.{eq-eqb, ne-eqb}
+use Rattle.lanes.specs.Lanes.{column, Block, LowBody}
+use Rattle.lanes.proofs.Words.{full, has-complement, has-not, has-full, has-column, low-six, high-ten}
+
+-- ---- the atoms of a list of them are those of the set
+module _ (q : ℕ → Bool) (p : ℕ) where
+  pub of-atoms : p < 65536 → T (every q (atomsIn p)) → (i : ℕ) → T (has p i) → T (q i)
+  unfolding atomsIn
+  of-atoms h t i u = every-at q (keep (has p) (below 16)) t i (keep-in (has p) (below 16) i (numbers-in 0 16 i (omega arith) (omega (arith, has-below 16 p i h u))) u)
+
+  pub to-atoms : ((i : ℕ) → T (has p i) → T (q i)) → T (every q (atomsIn p))
+  unfolding atomsIn
+  to-atoms f = every-made q (keep (has p) (below 16)) (λ i m. f i (in-keep (has p) (below 16) i m .1))
+
+and-assoc : (a b c : Bool) → ((a && b) && c) ≡ (a && (b && c))
+and-assoc true b c = refl
+and-assoc false b c = refl
+
+-- ---- the lowest atom of a set that is not empty, and the set without it, as the code takes it out
+abbrev pub without : ℕ → ℕ → ℕ
+without p a = bitAnd p (65535 - 1 * 2 ^ a % 65536)
+
+module _ (p : ℕ) (h : p < 65536) (z : p ≡ 0 → ⊥) (a : ℕ) (e : a ≡ lowest p) where
+  pub lowest-has : T (has p a)
+  lowest-has = subst (λ (x : ℕ). T (has p x)) (sym e) (lowest-in 16 p h (omega arith))
+
+  pub lowest-small : a < 16
+  lowest-small = has-below 16 p a h lowest-has
+
+  rest-has : (i : ℕ) → i < 16 → has (without p a) i ≡ (has p i && not (eqb i a))
+  rest-has i l =
+      has-and p (65535 - 1 * 2 ^ a % 65536) i
+      ∙ ap (λ (b : Bool). has p i && b) (has-complement 16 (1 * 2 ^ a % 65536) i (omega arith) l ∙ ap (λ (x : ℕ). not (has x i)) (shl-single a lowest-small) ∙ ap (λ (b : Bool). not b) (has-single a i))
+
+  rest-part : (i : ℕ) → T (has (without p a) i) → T (has p i)
+  rest-part i t = and-l (has p i) (has (65535 - 1 * 2 ^ a % 65536) i) (subst T (has-and p (65535 - 1 * 2 ^ a % 65536) i) t)
+
+  rest-not : T (has (without p a) a) → ⊥
+  rest-not t = T-not (eqb a a) (and-r (has p a) (not (eqb a a)) (subst T (rest-has a lowest-small) t)) (eqb-refl a)
+
+  pub rest-less : (without p a) < p
+  rest-less = lt-of-le-ne (inside-le (without p a) p rest-part) (λ q. rest-not (subst (λ (x : ℕ). T (has x a)) (sym q) lowest-has))
+
+  rest-made : (i : ℕ) → T (has p i) → (i ≡ a → ⊥) → T (has (without p a) i)
+  rest-made i t n = subst T (sym (rest-has i (has-below 16 p i h t))) (both (has p i) (not (eqb i a)) t (not-T (eqb i a) (λ u. n (eqb→eq i a u))))
+
+  -- what holds of every atom holds of the lowest and of the others
+  module _ (q : ℕ → Bool) where
+    pub atoms-step : every q (atomsIn p) ≡ (q a && every q (atomsIn (without p a)))
+    atoms-step =
+        same-yes (every q (atomsIn p)) (q a && every q (atomsIn (without p a)))
+        (λ t. both (q a) (every q (atomsIn (without p a))) (of-atoms q p h t a lowest-has) (to-atoms q (without p a) (λ i u. of-atoms q p h t i (rest-part i u))))
+        (λ t. to-atoms q p (λ i u. go i u (ℕ-discrete i a) (and-l (q a) (every q (atomsIn (without p a))) t) (and-r (q a) (every q (atomsIn (without p a))) t)))
+      where
+        go : (i : ℕ) → T (has p i) → Dec (i ≡ a) → T (q a) → T (every q (atomsIn (without p a))) → T (q i)
+        go i u (yes e) t v = subst (λ (x : ℕ). T (q x)) (sym e) t
+        go i u (no e) t v = of-atoms q (without p a) (omega (arith, rest-less)) v i (rest-made i u e)
+
+pub none-every : (l : List ℕ) (s : ℕ) → noneIn l s ≡ every (λ a. not (has s a)) l
+unfolding noneIn someIn some every
+none-every [] s = refl
+none-every (a ∷ l) s = go (has s a) (none-every l s)
+  where
+    go : (b : Bool) → not (some (has s) l) ≡ every (λ a. not (has s a)) l → not (b || some (has s) l) ≡ (not b && every (λ a. not (has s a)) l)
+    go true e = refl
+    go false e = e
+
+-- ---- the two loops, in one lane: y is what is left of the lanes, w the word of the lowest atom
+module _ (p : ℕ) (h : p < 65536) (z : p ≡ 0 → ⊥) (a : ℕ) (e : a ≡ lowest p) (w : List ℕ) (v : ℕ) (ev : v ≡ getD w a 0) (y j : ℕ) where
+  word-has : has (column w j) a ≡ has v j
+  word-has = has-column w j a ∙ ap (λ (x : ℕ). has x j) (sym ev)
+
+  pub all-turn : (has y j && allIn (atomsIn p) (column w j)) ≡ (has (bitAnd y (v)) j && allIn (atomsIn (without p a)) (column w j))
+  unfolding allIn
+  all-turn =
+      let R : Bool = every (has (column w j)) (atomsIn (without p a)) in
+      ap (λ (b : Bool). has y j && b) (atoms-step p h z a e (has (column w j)) ∙ ap (λ (b : Bool). b && R) word-has)
+      ∙ sym (and-assoc (has y j) (has (v) j) R) ∙ ap (λ (b : Bool). b && R) (sym (has-and y (v) j))
+
+  pub none-turn : j < 64 → v ≤ full → (has y j && noneIn (atomsIn p) (column w j)) ≡ (has (bitAnd y (full - v)) j && noneIn (atomsIn (without p a)) (column w j))
+  none-turn l k =
+      let N : ℕ → Bool = λ i. not (has (column w j) i) in
+      let R : Bool = every N (atomsIn (without p a)) in
+      ap (λ (b : Bool). has y j && b) (none-every (atomsIn p) (column w j) ∙ atoms-step p h z a e N ∙ ap (λ (b : Bool). not b && R) word-has)
+      ∙ ap (λ (b : Bool). has y j && (b && R)) (sym (has-not (v) j k l))
+      ∙ sym (and-assoc (has y j) (has (full - v) j) R) ∙ ap (λ (b : Bool). b && R) (sym (has-and y (full - v) j))
+      ∙ ap (λ (b : Bool). has (bitAnd y (full - v)) j && b) (sym (none-every (atomsIn (without p a)) (column w j)))
+
+-- no atom is left
+no-atoms : atomsIn 0 ≡ []
+unfolding atomsIn keep has numbers
+no-atoms = refl
+
+pub all-end : (p s : ℕ) (b : Bool) → p ≡ 0 → (b && allIn (atomsIn p) s) ≡ b
+unfolding allIn every
+all-end p s b e = ap (λ (l : List ℕ). b && allIn l s) (ap atomsIn e ∙ no-atoms) ∙ and-true b
+
+pub none-end : (p s : ℕ) (b : Bool) → p ≡ 0 → (b && noneIn (atomsIn p) s) ≡ b
+unfolding every
+none-end p s b e = ap (λ (l : List ℕ). b && noneIn l s) (ap atomsIn e ∙ no-atoms) ∙ ap (λ (c : Bool). b && c) (none-every [] s) ∙ and-true b
+
+-- ---- the two parts of a set of atoms p in a set of block b
+module _ (p b j : ℕ) (h : p < 65536) (l : j < 64) where
+  whole : 64 * (p / 64) + p % 64 ≡ p
+  whole = omega arith
+
+  -- by a test on every atom of p: one on the upper atoms, and one on the lowest six
+  part-low : (a : ℕ) → a < 6 → has p a ≡ has (p % 64) a
+  part-low a k = ap (λ (x : ℕ). has x a) (sym whole) ∙ low-six (p / 64) (p % 64) a k
+
+  part-high : (a : ℕ) → 6 ≤ a → has p a ≡ has (p / 64) (a - 6)
+  part-high a k = ap (λ (x : ℕ). has x a) (sym whole) ∙ high-ten (p / 64) (p % 64) a (omega arith) k
+
+  up-part : (i : ℕ) → has p (i + 6) ≡ has (p / 64) i
+  up-part i = part-high (i + 6) (omega arith) ∙ ap (λ (x : ℕ). has (p / 64) x) (let z : i + 6 - 6 ≡ i = omega arith in z)
+
+  up-set : (i : ℕ) → has (64 * b + j) (i + 6) ≡ has b i
+  up-set i = high-ten b j (i + 6) l (omega arith) ∙ ap (λ (x : ℕ). has b x) (let z : i + 6 - 6 ≡ i = omega arith in z)
+
+  pub parts : (f : Bool → Bool)
+      → every (λ a. f (has (64 * b + j) a)) (atomsIn p) ≡ (every (λ a. f (has b a)) (atomsIn (p / 64)) && every (λ a. f (has j a)) (atomsIn (p % 64)))
+  parts f = same-yes (every Q (atomsIn p)) (every B (atomsIn (p / 64)) && every J (atomsIn (p % 64))) to from
+    where
+      Q : ℕ → Bool
+      Q a = f (has (64 * b + j) a)
+
+      B : ℕ → Bool
+      B a = f (has b a)
+
+      J : ℕ → Bool
+      J a = f (has j a)
+
+      to : T (every Q (atomsIn p)) → T (every B (atomsIn (p / 64)) && every J (atomsIn (p % 64)))
+      to t =
+          both (every B (atomsIn (p / 64))) (every J (atomsIn (p % 64)))
+          (to-atoms B (p / 64) (λ i u. subst (λ (c : Bool). T (f c)) (up-set i) (of-atoms Q p h t (i + 6) (subst T (sym (up-part i)) u))))
+          (to-atoms J (p % 64) (λ i u. let k = has-below 6 (p % 64) i (omega arith) u in subst (λ (c : Bool). T (f c)) (low-six b j i k) (of-atoms Q p h t i (subst T (sym (part-low i k)) u))))
+
+      from : T (every B (atomsIn (p / 64)) && every J (atomsIn (p % 64))) → T (every Q (atomsIn p))
+      from t = to-atoms Q p (λ i u. go i u (decLt i 6))
+        where
+          go : (i : ℕ) → T (has p i) → Dec (i < 6) → T (Q i)
+          go i u (yes k) =
+              subst (λ (c : Bool). T (f c)) (sym (low-six b j i k))
+              (of-atoms J (p % 64) (omega arith) (and-r (every B (atomsIn (p / 64))) (every J (atomsIn (p % 64))) t) i (subst T (part-low i k) u))
+          go i u (no k) =
+              subst (λ (c : Bool). T (f c)) (sym (high-ten b j i l (omega arith)))
+              (of-atoms B (p / 64) (omega arith) (and-l (every B (atomsIn (p / 64))) (every J (atomsIn (p % 64))) t) (i - 6) (subst T (part-high i (omega arith)) u))
+
+  pub all-parts : allIn (atomsIn p) (64 * b + j) ≡ (allIn (atomsIn (p / 64)) b && allIn (atomsIn (p % 64)) j)
+  unfolding allIn
+  all-parts = parts (λ c. c)
+
+  pub none-parts : noneIn (atomsIn p) (64 * b + j) ≡ (noneIn (atomsIn (p / 64)) b && noneIn (atomsIn (p % 64)) j)
+  none-parts =
+      none-every (atomsIn p) (64 * b + j) ∙ parts not
+      ∙ ap (λ (c : Bool). c && every (λ a. not (has j a)) (atomsIn (p % 64))) (sym (none-every (atomsIn (p / 64)) b))
+      ∙ ap (λ (c : Bool). noneIn (atomsIn (p / 64)) b && c) (sym (none-every (atomsIn (p % 64)) j))
+
+-- ---- a row's body in a set of block b
+not-not : (b : Bool) → not (not b) ≡ b
+not-not true = refl
+not-not false = refl
+
+none-common : (p s : ℕ) → p < 65536 → noneIn (atomsIn p) s ≡ eqb (common p s) 0
+unfolding noneIn
+none-common p s h = ap (λ (c : Bool). not c) (body-some p s (omega arith)) ∙ not-not (eqb (common p s) 0)
+
+module _ (row b j : ℕ) (l : j < 64) where
+  body-parts : bodyHolds (ruleIn row) (64 * b + j)
+      ≡ ((inside (posSet row / 64) b && allIn (atomsIn (posSet row % 64)) j) && (eqb (common (negSet row / 64) b) 0 && noneIn (atomsIn (negSet row % 64)) j))
+  unfolding bodyHolds ruleIn posSet negSet
+  body-parts =
+      ap (λ (c : Bool). c && noneIn (atomsIn (negSet row)) (64 * b + j)) (all-parts (posSet row) b j (omega arith) l ∙ ap (λ (c : Bool). c && allIn (atomsIn (posSet row % 64)) j) (body-all (posSet row / 64) b (omega arith)))
+      ∙ ap (λ (c : Bool). (inside (posSet row / 64) b && allIn (atomsIn (posSet row % 64)) j) && c)
+      (none-parts (negSet row) b j (omega arith) l ∙ ap (λ (c : Bool). c && noneIn (atomsIn (negSet row % 64)) j) (none-common (negSet row / 64) b (omega arith)))
+
+  pub body-no-pos : inside (posSet row / 64) b ≡ false → has 0 j ≡ bodyHolds (ruleIn row) (64 * b + j)
+  body-no-pos e = has-zero j ∙ sym (body-parts ∙ rw e)
+
+  pub body-no-neg : (common (negSet row / 64) b ≡ 0 → ⊥) → has 0 j ≡ bodyHolds (ruleIn row) (64 * b + j)
+  body-no-neg n = has-zero j ∙ sym (body-parts ∙ rw (ne-eqb (common (negSet row / 64) b) 0 n) (and-false (inside (posSet row / 64) b && allIn (atomsIn (posSet row % 64)) j)))
+
+  pub body-low : inside (posSet row / 64) b ≡ true → common (negSet row / 64) b ≡ 0 → (low : ℕ) → LowBody row low → has low j ≡ bodyHolds (ruleIn row) (64 * b + j)
+  body-low e n low f = f j l ∙ sym (body-parts ∙ rw (e, eq-eqb (common (negSet row / 64) b) 0 n))
+
+-- ---- the low part of a row's body, made from the lanes whose set holds its positive part; and one row more
+module _ (row : ℕ) (w : List ℕ) (h : Block 0 w) (x y : ℕ) where
+  pub low-made : ((j : ℕ) → j < 64 → has x j ≡ (has full j && allIn (atomsIn (row % 64)) (column w j)))
+      → ((j : ℕ) → j < 64 → has y j ≡ (has x j && noneIn (atomsIn (row / 65536 % 64)) (column w j))) → LowBody row y
+  unfolding posSet negSet
+  low-made f g j l =
+      let p : row % 65536 % 64 ≡ row % 64 = omega arith in
+      let n : row / 65536 % 65536 % 64 ≡ row / 65536 % 64 = omega arith in
+      let c : column w j ≡ j = h .1 j l ∙ omega arith in
+      g j l ∙ rw (f j l, has-full j l, c, p, n)
+
+pub low-more : (rows lows : List ℕ) (n y : ℕ) → n < length lows → ((i : ℕ) → i < n → LowBody (getD rows i 0) (getD lows i 0)) → LowBody (getD rows n 0) y
+    → (i : ℕ) → i < n + 1 → LowBody (getD rows i 0) (getD (set lows n y) i 0)
+low-more rows lows n y k f g i l = go (ℕ-discrete i n)
+  where
+    go : Dec (i ≡ n) → LowBody (getD rows i 0) (getD (set lows n y) i 0)
+    go (yes e) = subst (λ (x : ℕ). LowBody (getD rows x 0) (getD (set lows n y) x 0)) (sym e) (subst (λ (x : ℕ). LowBody (getD rows n 0) x) (sym (getD-set-same lows n y 0 k)) g)
+    go (no e) = subst (λ (x : ℕ). LowBody (getD rows i 0) x) (sym (getD-set-other lows n i y 0 e)) (f i (omega arith))

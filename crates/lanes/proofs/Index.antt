@@ -1,0 +1,99 @@
+-- The index of the marked sets: made block by block, used to pass over a block, and kept where marks are lost. Assumes nothing.
+use mathlib.Core.Path.{_≡_, sym, ap, _∙_, subst}
+use mathlib.Core.Bool.{Bool, _&&_}
+use mathlib.Core.List.{List}
+use Prim.Native.Nat.{ℕ, _+_, _*_, _/_, _≤_, _<_}
+use native.Mathlib.Nat.{lt-of-not-le}
+use native.Mathlib.Decide.{ℕ-discrete, decLt}
+use native.Mathlib.Omega.{arith}
+use lib.Bits.{bitAnd}
+use lib.Dec.{T, eqb→eq}
+use lib.ListN.{length, getD, set}
+use lib.Seq.{getD-set-same, getD-set-other}
+use Rattle.atoms.specs.Atoms.{has, inside}
+use Rattle.atoms.proofs.Truth.{and-l, and-r, no-false, false-no}
+use Rattle.atoms.proofs.Bits.{has-zero}
+use Rattle.lpod.specs.Degree.{degree}
+use Rattle.words.specs.Coded.{ruleIn}
+use Rattle.lanes.specs.Lanes.{Says}
+use Rattle.lanes.specs.Marks.{marked, Within}
+use Rattle.lanes.specs.Rank.{over, Grades}
+use Rattle.lanes.specs.Left.{Firsts, Index, Searched, rival}
+use Rattle.lanes.proofs.Marked.{marked-at, marked-past, none-before, none-to, within-fewer}
+use Rattle.lanes.proofs.FirstRows.{FirstsTo, skip, none-over}
+
+-- ---- made block by block: it is right below block d
+abbrev pub IndexTo : List ℕ → List ℕ → List ℕ → ℕ → Type 0
+IndexTo rows index marks d =
+    (b n j : ℕ) → b < d → n < length rows → j < 64 → T (has (getD marks b 0) j) → degree (64 * b + j) (ruleIn (getD rows n 0)) ≡ 1 → T (has (getD index b 0) n)
+
+module _ (rows index marks : List ℕ) (low high : ℕ) (w : Within marks low high) where
+  pub index-first : IndexTo rows index marks low
+  index-first b n j l h k t e =
+      absurd (none-before marks low high w (64 * b + j) (omega arith) (omega arith) (subst T (sym (marked-at marks b j k)) t))
+
+  -- x is right for block b, and c is the next that lies between
+  pub index-more : (b c x : ℕ) → b < length index → IndexTo rows index marks b → FirstsTo rows b (getD marks b 0) (length rows) x → b < c
+      → ((d : ℕ) → b < d → d < c → T (inside low d) → T (inside d high) → ⊥) → IndexTo rows (set index b x) marks c
+  index-more b c x fit f g l p a n j h m k t e = go (ℕ-discrete a b) (decLt a b)
+    where
+      go : Dec (a ≡ b) → Dec (a < b) → T (has (getD (set index b x) a 0) n)
+      go (yes z) d =
+          let t′ : T (has (getD marks b 0) j) = subst (λ (i : ℕ). T (has (getD marks i 0) j)) z t in
+          let e′ : degree (64 * b + j) (ruleIn (getD rows n 0)) ≡ 1 = subst (λ (i : ℕ). degree (64 * i + j) (ruleIn (getD rows n 0)) ≡ 1) z e in
+          subst (λ (y : ℕ). T (has y n)) (sym (ap (λ (i : ℕ). getD (set index b x) i 0) z ∙ getD-set-same index b x 0 fit)) (g n j m k t′ e′)
+      go (no z) (yes d) = subst (λ (y : ℕ). T (has y n)) (sym (getD-set-other index b a x 0 z)) (f a n j d m k t e)
+      go (no z) (no d) =
+          absurd (none-to marks low high w b c p (64 * a + j) (omega arith) (omega arith) (subst T (sym (marked-at marks a j k)) t))
+
+pub index-all : (rows index marks : List ℕ) (d : ℕ) → length marks ≤ d → IndexTo rows index marks d → Index rows index marks
+index-all rows index marks d h f b n j l = f b n j (omega arith)
+
+-- ---- marks that are lost change nothing
+pub index-fewer : (rows index marks fewer : List ℕ) → length fewer ≡ length marks → ((s : ℕ) → T (marked fewer s) → T (marked marks s)) → Index rows index marks → Index rows index fewer
+index-fewer rows index marks fewer q f g b n j l m k t e =
+    g b n j (omega arith) m k (subst T (marked-at marks b j k) (f (64 * b + j) (subst T (sym (marked-at fewer b j k)) t))) e
+
+pub searched-left : (rows index marks fewer : List ℕ) (low high : ℕ) → length fewer ≡ length marks → ((s : ℕ) → T (marked fewer s) → T (marked marks s))
+    → Searched rows marks index low high → Searched rows fewer index low high
+searched-left rows index marks fewer low high q f h = record {
+  few = omega (arith, q, h .few);
+  fit = omega (arith, q, h .fit);
+  start = omega (arith, q, h .start);
+  order = h .order;
+  between = within-fewer marks low high (h .between) fewer f;
+  firsts = index-fewer rows index marks fewer q f (h .firsts);
+}
+
+-- ---- the lanes of a block that are marked and preferred to M
+module _ (rows marks : List ℕ) (b M : ℕ) where
+  pub rival-says : (x : ℕ) → ((j : ℕ) → j < 64 → has x j ≡ (has (getD marks b 0) j && over rows (64 * b + j) M)) → Says b x (rival rows marks M)
+  rival-says x f j l = f j l ∙ ap (λ (a : Bool). a && over rows (64 * b + j) M) (sym (marked-at marks b j l))
+
+  none-says : ((j : ℕ) → j < 64 → T (has (getD marks b 0) j) → T (over rows (64 * b + j) M) → ⊥) → Says b 0 (rival rows marks M)
+  none-says f =
+      rival-says 0 (λ j l. has-zero j ∙ sym (no-false (has (getD marks b 0) j && over rows (64 * b + j) M) (λ t.
+      f j l (and-l (has (getD marks b 0) j) (over rows (64 * b + j) M) t) (and-r (has (getD marks b 0) j) (over rows (64 * b + j) M) t))))
+
+  -- the word is 0; or the rows of degree 1 are no part of the index word
+  pub none-marked : getD marks b 0 ≡ 0 → Says b 0 (rival rows marks M)
+  none-marked z = none-says (λ j l t o. subst T (ap (λ (x : ℕ). has x j) z ∙ has-zero j) t)
+
+  pub none-first : (grades index : List ℕ) (first : ℕ) → Grades rows grades M → Firsts rows grades first → Index rows index marks → b < length marks
+      → (bitAnd first (getD index b 0) ≡ first → ⊥) → Says b 0 (rival rows marks M)
+  unfolding inside
+  none-first grades index first g f i l n =
+      none-says (λ j k t o.
+      false-no (skip rows grades M g first f b (getD marks b 0) (getD index b 0) (λ m j h. i b m j l h) (λ u. n (eqb→eq (bitAnd first (getD index b 0)) first u)) j k t) o)
+
+-- every row has degree 1 in M
+pub no-rival : (rows grades marks : List ℕ) (M first : ℕ) → Grades rows grades M → Firsts rows grades first → ((n : ℕ) → n < length rows → T (has first n))
+    → (s : ℕ) → T (rival rows marks M s) → ⊥
+no-rival rows grades marks M first g f a s t = false-no (none-over rows grades M g first f a s) (and-r (marked marks s) (over rows s M) t)
+
+-- ---- where a marked set stands
+pub stands : (rows marks index : List ℕ) (low high : ℕ) → Searched rows marks index low high → (s : ℕ) → T (marked marks s)
+    → (s / 64 < length marks) × T (inside low (s / 64)) × T (inside (s / 64) high)
+stands rows marks index low high h s t =
+    let l : s < 64 * length marks = lt-of-not-le (λ k. false-no (marked-past marks s k) t) in
+    (omega arith, h .between s t .0, h .between s t .1)

@@ -1,0 +1,144 @@
+-- `marks::store_block` goes from run to run. What is kept: x is what is left of the word from the set s on, and the sets from s on, stored from `at`
+-- on, leave what all sets of the block do. Assumes nothing.
+use mathlib.Core.Path.{_≡_, refl, sym, ap, _∙_}
+use mathlib.Core.List.{List}
+use Prim.Native.Nat.{ℕ, _+_, _-_, _*_, _/_, _^_, _≤_}
+use native.Mathlib.Omega.{arith}
+use denote.Ref.{now}
+use lib.Count.{trailingZeros}
+use lib.ListN.{length, getD}
+use lib.Seq.{sets}
+use Rattle.lpod.specs.Lists.{keep, numbers}
+use Rattle.lanes.specs.Marks.{marked}
+use Rattle.lanes.proofs.Words.{full}
+use Rattle.lanes.proofs.BlockSets.{passing}
+use Rattle.lanes.proofs.Runs.{Run, next-run, runs-word, runs-all, runs-done, run-length, run-stored, run-same}
+use Rattle.lanes.proofs.marks.store_block.Statement.{statement}
+use Rattle.lanes.proofs.marks.store_block.Tie as tie
+use Rattle.lanes.proofs.marks.store_block.Reads as reads
+use Rattle.lanes.proofs.marks.store_block.Lts as lts
+use Rattle.lanes.proofs.marks.store_run.Reads as store-run-reads
+
+abbrev Inv-loop : tie.InvT-loop
+Inv-loop marks b out₀ k x₀ s₀ at₀ out x s at =
+    (64 * b ≤ s) × (s ≤ 64 * b + 64) × (x ≡ getD marks b 0 / 2 ^ (s - 64 * b)) × (length out ≡ length out₀)
+    × (k + length (keep (marked marks) (numbers (64 * b) 64)) ≡ at + length (passing (marked marks) s (64 * b + 64)))
+    × (sets out₀ k (keep (marked marks) (numbers (64 * b) 64)) ≡ sets out at (passing (marked marks) s (64 * b + 64)))
+
+abbrev μ-loop : tie.MeasureT-loop
+μ-loop marks b out₀ k x₀ s₀ at₀ out x s at = 64 * b + 64 - s
+
+-- the run in hand
+run-at : (c : lts.In-loop (store-run-reads.Asked, store-run-reads.Learnt) reads.Pre reads.Post Inv-loop μ-loop)
+    → Run (now (c .before .before .before .before .before .args .marks)) (c .before .before .before .before .before .args .b) (c .before .loop .s)
+    (trailingZeros 64 (c .before .loop .x)) (c .before .loop .x / 2 ^ trailingZeros 64 (c .before .loop .x))
+    (trailingZeros 64 (full - c .before .loop .x / 2 ^ trailingZeros 64 (c .before .loop .x)))
+run-at c =
+    let h = c .before .loop in
+    let known = c .before .before .before .before in
+    let a = known .before .args in
+    next-run (now (a .marks)) (a .b) (h .s) (h .x) (h .inv .0) (h .inv .2) (known .shared-slice-known .given (a .b) .fits) (c .loop-test .taken)
+
+mul-x : tie.Need-mul-x Inv-loop μ-loop
+mul-x c = omega arith
+
+shared-slice-read-x : tie.Need-shared-slice-read-x Inv-loop μ-loop
+shared-slice-read-x c = omega arith
+
+mul-s : tie.Need-mul-s Inv-loop μ-loop
+mul-s c = omega arith
+
+loop-holds : tie.Need-loop-holds Inv-loop μ-loop
+loop-holds c =
+    let a = c .before .before .before .args in
+    let e = runs-all (now (a .marks)) (a .b) in
+    (omega arith, omega arith, runs-word (now (a .marks)) (a .b), refl, ap (λ (l : List ℕ). a .k + length l) e, ap (sets (now (a .out)) (a .k)) e)
+
+cast-y : tie.Need-cast-y Inv-loop μ-loop
+cast-y c = let r = run-at c in omega arith
+
+shr-y : tie.Need-shr-y Inv-loop μ-loop
+shr-y c = run-at c .low
+
+add-s : tie.Need-add-s Inv-loop μ-loop
+add-s c = let r = run-at c in omega arith
+
+store-run-requires : tie.Need-store-run-requires Inv-loop μ-loop
+store-run-requires c κs =
+    let r = run-at (c .before) in
+    let h = c .before .before .loop .inv in
+    let n = run-length r in
+    (omega (arith, h .4), omega (arith, h .3, h .4), omega arith)
+
+cast-at : tie.Need-cast-at Inv-loop μ-loop
+cast-at c = let r = run-at (c .before .before .before .before) in omega arith
+
+add-at : tie.Need-add-at Inv-loop μ-loop
+add-at c =
+    let i = c .before .before .before .before in
+    let r = run-at i in
+    omega (arith, run-length r, i .before .loop .inv .4)
+
+add-s-2 : tie.Need-add-s-2 Inv-loop μ-loop
+add-s-2 c = let r = run-at (c .before .before .before .before) in omega arith
+
+sub-x : tie.Need-sub-x Inv-loop μ-loop
+sub-x c = let r = run-at (c .before .before .before .before) in omega arith
+
+cast-x : tie.Need-cast-x Inv-loop μ-loop
+cast-x c = let r = run-at (c .before .before .before .before) in omega arith
+
+shr-x : tie.Need-shr-x Inv-loop μ-loop
+shr-x c = let r = run-at (c .before .before .before .before) in omega arith
+
+loop-less : tie.Need-loop-less Inv-loop μ-loop
+loop-less c = let r = run-at (c .before .before .before .before) in omega arith
+
+loop-again : tie.Need-loop-again Inv-loop μ-loop
+loop-again c =
+    let e = c .before .before .store-run .ensures in
+    let i = c .before .before .before .before in
+    let h = i .before .loop in
+    let r = run-at i in (
+      omega (arith, h .inv .0),
+      r .fits,
+      r .left,
+      run-same r (h .out) _ (h .at) e ∙ h .inv .3,
+      omega (arith, h .inv .4, run-length r),
+      h .inv .5 ∙ run-stored r (h .out) _ (h .at) e,
+    )
+
+same-length : tie.Need-same-length Inv-loop μ-loop
+same-length c = c .before .loop .inv .3
+
+returns : tie.Need-returns Inv-loop μ-loop
+returns c =
+    let h = c .before .loop in
+    let a = c .before .before .before .before .before .args in
+    let e = runs-done (now (a .marks)) (a .b) (h .s) (h .x) (h .inv .0) (h .inv .1) (h .inv .2) (c .loop-test .left) in
+    (sym (h .inv .5 ∙ ap (sets (h .out) (h .at)) e), omega (arith, h .inv .4, ap length e))
+
+pub store-block-spec : {M : Type 1} → statement M
+store-block-spec =
+    tie.close
+    (tie.spec
+    Inv-loop
+    μ-loop
+    mul-x
+    shared-slice-read-x
+    mul-s
+    loop-holds
+    cast-y
+    shr-y
+    add-s
+    store-run-requires
+    cast-at
+    add-at
+    add-s-2
+    sub-x
+    cast-x
+    shr-x
+    loop-less
+    loop-again
+    same-length
+    returns)

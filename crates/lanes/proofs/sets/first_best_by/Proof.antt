@@ -1,0 +1,55 @@
+-- `sets::first_best_by`: the rows that rank, and the best by them. Assumes nothing.
+use mathlib.Core.Path.{ap, _∙_}
+use mathlib.Core.List.{List}
+use Prim.Native.Nat.{ℕ}
+use native.Mathlib.Omega.{arith}
+use denote.Ref.{now}
+use Rattle.words.proofs.Lent.{words-many, words-most}
+use Rattle.lanes.specs.Rank.{over}
+use Rattle.lanes.specs.Seek.{nextFrom}
+use Rattle.lanes.specs.Search.{soughtBest}
+use borrow.Author.Needs.{needs}
+use Rattle.lanes.proofs.sets.first_best_by.Statement.{statement}
+use Rattle.lanes.proofs.sets.first_best_by.Tie as tie
+use Rattle.lanes.proofs.sets.first_best_by.Reads as reads
+use Rattle.lanes.proofs.sets.first_best_by.Lts as lts
+use Rattle.lanes.proofs.rank.ranking.Reads as ranking-reads
+use Rattle.lanes.proofs.sets.first_best.Reads as first-best-reads
+
+ranking-requires : tie.Need-ranking-requires
+ranking-requires c κs = search needs
+
+array-share-prefix-kept : tie.Need-array-share-prefix-kept
+array-share-prefix-kept c = search needs
+
+slice-aggregate-first-best : tie.Need-slice-aggregate-first-best
+slice-aggregate-first-best c = words-many _ _ (array-share-prefix-kept (c .before))
+
+first-best-requires : tie.Need-first-best-requires
+first-best-requires c κs =
+    let p = c .before .before .before .before .before .before .before .before .pre in
+    let r = c .before .before .before .before .ranking .ensures in
+    (words-most _ 32 _ (omega (arith, r .0, r .1)) (r .0), p .1, p .2, p .3, p .4, p .5)
+
+same-length : tie.Need-same-length
+same-length c = search needs
+
+same-length-2 : tie.Need-same-length-2
+same-length-2 c = search needs
+
+returns : tie.Need-returns
+returns c =
+    c .before .before .before .before .first-best .ensures
+    ∙ ap (λ (l : List ℕ). nextFrom (soughtBest (over l) (now (c .before .before .before .before .before .before .before .before .before .before .before .before .before .args .marks))) 0) (c .before .before .before .before .before .before .before .before .before .ranking .ensures .2)
+
+pub first-best-by-spec : {M : Type 1} → statement M
+first-best-by-spec =
+    tie.close
+    (tie.spec
+    ranking-requires
+    array-share-prefix-kept
+    slice-aggregate-first-best
+    first-best-requires
+    same-length
+    same-length-2
+    returns)

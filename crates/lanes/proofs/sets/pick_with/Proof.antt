@@ -1,0 +1,42 @@
+-- `sets::pick_with`: the least best set of the marks is the first of the best sets. Assumes nothing.
+use mathlib.Core.Path.{refl, ap, _∙_}
+use mathlib.Core.List.{List}
+use Prim.Native.Nat.{ℕ}
+use native.Mathlib.Omega.{arith}
+use Rattle.lpod.specs.Best.{firstOf, pick}
+use Rattle.lanes.specs.Sets.{numberOf}
+use Rattle.lanes.proofs.Listed.{first-number, may-list}
+use borrow.Author.Needs.{needs}
+use Rattle.lanes.proofs.sets.pick_with.Statement.{statement}
+use Rattle.lanes.proofs.sets.pick_with.Tie as tie
+use Rattle.lanes.proofs.sets.pick_with.Reads as reads
+use Rattle.lanes.proofs.sets.pick_with.Lts as lts
+use Rattle.lanes.proofs.sets.first_best_by.Reads as first-best-by-reads
+use Rattle.lanes.proofs.sets.mark.Reads as mark-reads
+
+mark-requires : tie.Need-mark-requires
+mark-requires c κs = search needs
+
+first-best-by-requires : tie.Need-first-best-by-requires
+first-best-by-requires c κs =
+    let m = c .before .before .before .before .mark .ensures in
+    let l = may-list m _ refl (m .between) in
+    let p = c .before .before .before .before .before .before .before .before .before .before .pre in
+    (p .0, l .0, let e = m .long in let f = p .2 in let g = p .4 in omega arith, l .3, l .2, l .1)
+
+same-length : tie.Need-same-length
+same-length c = search needs
+
+same-length-2 : tie.Need-same-length-2
+same-length-2 c = search needs
+
+returns : tie.Need-returns
+unfolding pick
+returns c =
+    let m = c .before .before .before .before .before .before .before .before .before .mark .ensures in
+    let f = c .before .before .before .before .first-best-by in
+    first-number _ (f .result) (f .ensures) ∙ ap (λ (l : List ℕ). numberOf (firstOf l)) (m .best)
+
+pub pick-with-spec : {M : Type 1} → statement M
+pick-with-spec =
+    tie.close (tie.spec mark-requires first-best-by-requires same-length same-length-2 returns)

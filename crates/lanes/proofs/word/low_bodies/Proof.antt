@@ -1,0 +1,95 @@
+-- `word::low_bodies` goes through the rows in block 0, whose sets are the numbers of the lanes. Assumes nothing.
+use Prim.Native.Nat.{ℕ, _-_, _<_, _≤_}
+use mathlib.Core.Path.{_≡_, refl, sym, ap, _∙_}
+use native.Mathlib.Omega.{arith}
+use denote.Ref.{now}
+use lib.ListN.{length, getD, length-set}
+use Rattle.lanes.specs.Lanes.{Block, LowBody}
+use Rattle.lanes.proofs.Bodies.{low-made, low-more}
+use Rattle.lanes.proofs.word.low_bodies.Statement.{statement}
+use Rattle.lanes.proofs.word.low_bodies.Tie as tie
+use Rattle.lanes.proofs.word.low_bodies.Reads as reads
+use Rattle.lanes.proofs.word.low_bodies.Lts as lts
+use Rattle.lanes.proofs.word.all_in.Reads as all-in-reads
+use Rattle.lanes.proofs.word.block_words.Reads as block-words-reads
+use Rattle.lanes.proofs.word.none_in.Reads as none-in-reads
+
+abbrev Inv-loop : tie.InvT-loop
+Inv-loop rows w lows₀ n₀ lows n = (n ≤ length rows) × (length rows ≤ 32) × (length lows ≡ 32) × Block 0 w × ((i : ℕ) → i < n → LowBody (getD rows i 0) (getD lows i 0))
+
+abbrev μ-loop : tie.MeasureT-loop
+μ-loop rows w lows₀ n₀ lows n = length rows - n
+
+block-words-requires : tie.Need-block-words-requires Inv-loop μ-loop
+block-words-requires c κs = omega arith
+
+loop-holds : tie.Need-loop-holds Inv-loop μ-loop
+loop-holds c = (omega arith, c .before .before .pre, refl, c .block-words .ensures, λ i l. absurd (omega arith))
+
+mul-row : tie.Need-mul-row Inv-loop μ-loop
+mul-row c = omega arith
+
+shared-slice-read-row : tie.Need-shared-slice-read-row Inv-loop μ-loop
+shared-slice-read-row c = omega arith
+
+cast-all-in : tie.Need-cast-all-in Inv-loop μ-loop
+cast-all-in c = omega arith
+
+all-in-requires : tie.Need-all-in-requires Inv-loop μ-loop
+all-in-requires c κs = c .before .before .before .before .block-words .ensures .0
+
+cast-none-in : tie.Need-cast-none-in Inv-loop μ-loop
+cast-none-in c = omega arith
+
+none-in-requires : tie.Need-none-in-requires Inv-loop μ-loop
+none-in-requires c κs = c .before .before .before .before .before .before .block-words .ensures .0
+
+mul-lows : tie.Need-mul-lows Inv-loop μ-loop
+mul-lows c = omega arith
+
+array-write-lows : tie.Need-array-write-lows Inv-loop μ-loop
+array-write-lows c = omega arith
+
+add-n : tie.Need-add-n Inv-loop μ-loop
+add-n c = omega arith
+
+loop-less : tie.Need-loop-less Inv-loop μ-loop
+loop-less c = omega arith
+
+loop-again : tie.Need-loop-again Inv-loop μ-loop
+loop-again c =
+    let h = c .before .before .before .before .before .before .loop in
+    let x = c .before .before .all-in in
+    let y = c .none-in in (
+      omega arith,
+      h .inv .1,
+      length-set (h .lows) (h .n) (y .result) ∙ h .inv .2,
+      h .inv .3,
+      low-more (now (c .before .before .before .before .before .before .before .before .before .args .rows)) (h .lows) (h .n) (y .result) (omega arith) (h .inv .4) (low-made _ _ (h .inv .3) (x .result) (y .result) (x .ensures) (y .ensures)),
+    )
+
+returns : tie.Need-returns Inv-loop μ-loop
+returns c =
+    let h = c .before .loop in
+    (h .inv .2, λ n l. h .inv .4 n (omega arith))
+
+pub low-bodies-spec : {M : Type 1} → statement M
+low-bodies-spec =
+    tie.close
+    (tie.spec
+    Inv-loop
+    μ-loop
+    block-words-requires
+    loop-holds
+    mul-row
+    shared-slice-read-row
+    cast-all-in
+    all-in-requires
+    cast-none-in
+    none-in-requires
+    mul-lows
+    array-write-lows
+    add-n
+    loop-less
+    loop-again
+    returns)

@@ -1,0 +1,10 @@
+pub mod Lanes
+pub mod Pass
+pub mod Seek
+pub mod Marks
+pub mod Search
+pub mod Rank
+pub mod Tried
+pub mod Entries
+pub mod Sets
+pub mod Left

@@ -1,0 +1,206 @@
+// The answer sets of rows and pairs in words and a flag word: all of them or the best, in lent memory, and the pick. Any words, flag word and slice
+// will do.
+ghost use mathlib.Core.Path.{_≡_};
+ghost use mathlib.Core.Bool.{false};
+ghost use Prim.Native.Nat.{ℕ, _+_, _/_, _≤_, _<_};
+ghost use lib.Dec.{T};
+ghost use lib.ListN.{length};
+ghost use Rattle.atoms.specs.Atoms.{inside};
+ghost use Rattle.lpod.specs.Lists.{keep};
+ghost use Rattle.lpod.specs.Best as bests;
+ghost use Rattle.words.specs.Coded.{rulesIn, programIn};
+ghost use Rattle.lanes.specs.Lanes.{LowBodies};
+ghost use Rattle.lanes.specs.Seek.{nextFrom, allFrom};
+ghost use Rattle.lanes.specs.Marks.{marked, Within};
+ghost use Rattle.lanes.specs.Tried.{topOf};
+ghost use Rattle.lanes.specs.Rank.{over, ranks};
+ghost use Rattle.lanes.specs.Search.{soughtBest};
+ghost use Rattle.lanes.specs.Sets as means;
+use super::fill;
+use super::heads;
+use super::marks;
+use super::rank;
+use super::search;
+use super::word;
+
+// Whether there is room for the sets, and how many there are.
+pub struct Found {
+    pub fits: bool,
+    pub count: u32,
+}
+
+// Counts the marked sets, and stores them where there is room.
+fn listed(marks: &[u64], low: u16, high: u16, out: &mut [u16]) -> Found
+    requires { ⌜ (length (now marks) ≤ 1024) × Within (now marks) low high × T (inside low high) × (low < length (now marks)) ⌝ }
+    ensures { λ r. ⌜ means.FoundSays (allFrom (marked (now (marks .entry))) 0) (now (out .entry)) r (now (out .exit)) ⌝ }
+{
+    let count = marks::count(marks, low, high);
+    if out.len() < count as usize {
+        return Found { fits: false, count };
+    }
+    marks::store(marks, low, high, &mut *out);
+    Found { fits: true, count }
+}
+
+// Of the marked sets only the best keep their marks, by rows that rank.
+fn keep_best(rows: &[u64], low: u16, high: u16, index: &mut [u32], marks: &mut [u64])
+    requires { ⌜ (length (now rows) ≤ 32) × (length (now marks) ≤ 1024) × (length (now marks) ≤ length (now index)) × (low < length (now marks)) × T (inside low high) × Within (now marks) low high ⌝ }
+    ensures { λ r. ⌜ (length (now (marks .exit)) ≡ length (now (marks .entry))) × Within (now (marks .exit)) low high × ((s : ℕ) → s < 65536 → marked (now (marks .exit)) s ≡ soughtBest (over (now (rows .entry))) (now (marks .entry)) s) ⌝ }
+{
+    let lows = word::low_bodies(rows);
+    let deepest = rank::deepest(rows);
+    search::indexes(rows, &lows, &*marks, low, high, &mut *index);
+    search::keep_best(rows, &lows, deepest, low, high, &*index, &mut *marks);
+}
+
+// The least best of the marked sets, by rows that rank.
+fn first_best(rows: &[u64], low: u16, high: u16, index: &mut [u32], marks: &mut [u64]) -> u32
+    requires { ⌜ (length (now rows) ≤ 32) × (length (now marks) ≤ 1024) × (length (now marks) ≤ length (now index)) × (low < length (now marks)) × T (inside low high) × Within (now marks) low high ⌝ }
+    ensures { λ r. ⌜ r ≡ nextFrom (soughtBest (over (now (rows .entry))) (now (marks .entry))) 0 ⌝ }
+{
+    let lows = word::low_bodies(rows);
+    let deepest = rank::deepest(rows);
+    search::indexes(rows, &lows, &*marks, low, high, &mut *index);
+    search::first_best(rows, &lows, deepest, low, high, &*index, &mut *marks)
+}
+
+// The same by any rows: those that do not rank are left out.
+fn keep_best_by(rows: &[u64], low: u16, high: u16, index: &mut [u32], marks: &mut [u64])
+    requires { ⌜ (length (now rows) ≤ 32) × (length (now marks) ≤ 1024) × (length (now marks) ≤ length (now index)) × (low < length (now marks)) × T (inside low high) × Within (now marks) low high ⌝ }
+    ensures { λ r. ⌜ (length (now (marks .exit)) ≡ length (now (marks .entry))) × Within (now (marks .exit)) low high × ((s : ℕ) → s < 65536 → marked (now (marks .exit)) s ≡ soughtBest (over (keep ranks (now (rows .entry)))) (now (marks .entry)) s) ⌝ }
+{
+    let ranked = rank::ranking(rows);
+    let n = ranked.count;
+    let kept = ranked.rows;
+    keep_best(&kept[..n], low, high, &mut *index, &mut *marks);
+}
+
+fn first_best_by(rows: &[u64], low: u16, high: u16, index: &mut [u32], marks: &mut [u64]) -> u32
+    requires { ⌜ (length (now rows) ≤ 32) × (length (now marks) ≤ 1024) × (length (now marks) ≤ length (now index)) × (low < length (now marks)) × T (inside low high) × Within (now marks) low high ⌝ }
+    ensures { λ r. ⌜ r ≡ nextFrom (soughtBest (over (keep ranks (now (rows .entry)))) (now (marks .entry))) 0 ⌝ }
+{
+    let ranked = rank::ranking(rows);
+    let n = ranked.count;
+    let kept = ranked.rows;
+    first_best(&kept[..n], low, high, &mut *index, &mut *marks)
+}
+
+// Marks the answer sets in words that have no mark.
+fn mark(rows: &[u64], pairs: &[u16], flags: u16, top: u16, marks: &mut [u64])
+    requires { ⌜ (length (now rows) ≤ 32) × (top ≡ topOf (rulesIn (now rows)) flags) × (length (now marks) ≡ top / 64 + 1) × ((s : ℕ) → marked (now marks) s ≡ false) ⌝ }
+    ensures { λ r. ⌜ means.Marked (now (rows .entry)) (now (pairs .entry)) flags top (now (marks .exit)) ⌝ }
+{
+    let lows = word::low_bodies(rows);
+    fill::answers(rows, &lows, pairs, flags, top, &mut *marks);
+}
+
+// Marks the answer sets in words that have no mark, keeps the best where only these are wanted, and lists what is marked.
+fn sets_with(
+    rows: &[u64],
+    pairs: &[u16],
+    flags: u16,
+    top: u16,
+    best: bool,
+    index: &mut [u32],
+    marks: &mut [u64],
+    out: &mut [u16],
+) -> Found
+    requires { ⌜ (length (now rows) ≤ 32) × (top ≡ topOf (rulesIn (now rows)) flags) × (length (now marks) ≡ top / 64 + 1) × ((s : ℕ) → marked (now marks) s ≡ false) × (length (now marks) ≤ length (now index)) ⌝ }
+    ensures { λ r. ⌜ means.FoundSays (means.wanted best (programIn (now (rows .entry)) (now (pairs .entry)) flags)) (now (out .entry)) r (now (out .exit)) ⌝ }
+{
+    mark(rows, pairs, flags, top, &mut *marks);
+    let low = flags / 64;
+    let high = top / 64;
+    if !best {
+        return listed(&*marks, low, high, &mut *out);
+    }
+    keep_best_by(rows, low, high, &mut *index, &mut *marks);
+    listed(&*marks, low, high, &mut *out)
+}
+
+// Marks the answer sets in words that have no mark, and answers the least best one; 65,536, which is no set, where there is none.
+fn pick_with(
+    rows: &[u64],
+    pairs: &[u16],
+    flags: u16,
+    top: u16,
+    index: &mut [u32],
+    marks: &mut [u64],
+) -> u32
+    requires { ⌜ (length (now rows) ≤ 32) × (top ≡ topOf (rulesIn (now rows)) flags) × (length (now marks) ≡ top / 64 + 1) × ((s : ℕ) → marked (now marks) s ≡ false) × (length (now marks) ≤ length (now index)) ⌝ }
+    ensures { λ r. ⌜ r ≡ means.numberOf (bests.pick (programIn (now (rows .entry)) (now (pairs .entry)) flags)) ⌝ }
+{
+    mark(rows, pairs, flags, top, &mut *marks);
+    first_best_by(rows, flags / 64, top / 64, &mut *index, &mut *marks)
+}
+
+// The same for at most 32 rows. A small page needs few words: four for eight atoms.
+fn sets_to(rows: &[u64], pairs: &[u16], flags: u16, best: bool, out: &mut [u16]) -> Found
+    requires { ⌜ length (now rows) ≤ 32 ⌝ }
+    ensures { λ r. ⌜ means.FoundSays (means.wanted best (programIn (now (rows .entry)) (now (pairs .entry)) flags)) (now (out .entry)) r (now (out .exit)) ⌝ }
+{
+    let top = heads::top_of(rows, flags);
+    let words = (top / 64) as usize + 1;
+    if words <= 4 {
+        let mut index = [0u32; 4];
+        let mut few = [0u64; 4];
+        return sets_with(
+            rows,
+            pairs,
+            flags,
+            top,
+            best,
+            &mut index,
+            &mut few[..words],
+            &mut *out,
+        );
+    }
+    let mut index = [0u32; 1024];
+    let mut all = [0u64; 1024];
+    sets_with(
+        rows,
+        pairs,
+        flags,
+        top,
+        best,
+        &mut index,
+        &mut all[..words],
+        &mut *out,
+    )
+}
+
+fn pick_to(rows: &[u64], pairs: &[u16], flags: u16) -> u32
+    requires { ⌜ length (now rows) ≤ 32 ⌝ }
+    ensures { λ r. ⌜ r ≡ means.numberOf (bests.pick (programIn (now (rows .entry)) (now (pairs .entry)) flags)) ⌝ }
+{
+    let top = heads::top_of(rows, flags);
+    let words = (top / 64) as usize + 1;
+    if words <= 4 {
+        let mut index = [0u32; 4];
+        let mut few = [0u64; 4];
+        return pick_with(rows, pairs, flags, top, &mut index, &mut few[..words]);
+    }
+    let mut index = [0u32; 1024];
+    let mut all = [0u64; 1024];
+    pick_with(rows, pairs, flags, top, &mut index, &mut all[..words])
+}
+
+// All answer sets, or the best of them, rising, in lent memory where there is room for all. Of more than 32 rows the first 32 count.
+pub fn sets(rows: &[u64], pairs: &[u16], flags: u16, best: bool, out: &mut [u16]) -> Found
+    ensures { λ r. ⌜ means.FoundSays (means.wanted best (means.programOf (now (rows .entry)) (now (pairs .entry)) flags)) (now (out .entry)) r (now (out .exit)) ⌝ }
+{
+    if 32 < rows.len() {
+        return sets_to(&rows[..32], pairs, flags, best, &mut *out);
+    }
+    sets_to(rows, pairs, flags, best, &mut *out)
+}
+
+// The lowest-numbered best set; 65,536, which is no set, where there is no answer set. Of more than 32 rows the first 32 count.
+pub fn pick(rows: &[u64], pairs: &[u16], flags: u16) -> u32
+    ensures { λ r. ⌜ r ≡ means.numberOf (bests.pick (means.programOf (now (rows .entry)) (now (pairs .entry)) flags)) ⌝ }
+{
+    if 32 < rows.len() {
+        return pick_to(&rows[..32], pairs, flags);
+    }
+    pick_to(rows, pairs, flags)
+}
