@@ -1,51 +1,65 @@
-/* The engine against the plain C solver, in one process and one run: bench NAME FILE FLAGS [NAME FILE FLAGS ..].
-   Each call is timed in turns, one solver and the other, and the least time of each is kept, so that what else the
-   machine does counts for little; the answers must be the same. Only ratios are printed: times say little about
-   another machine. */
+/* The engine, the limit and plain C in one process and one run: bench NAME FILE FLAGS WHO [NAME FILE FLAGS WHO ..].
+   WHO has a letter for each solver that is asked for best, pick and display: e, l, p. One that would take too long is left
+   out, and its ratios are a dash. Each call is timed in turns, one solver after the other, the pages are gone through three
+   times, and the least time of each is kept, so that what else the machine does counts for little; the answers must be the
+   same. Only ratios are printed: times say little about another machine. */
+#include "limit.h"
 #include "plain.h"
 
 int printf(const char *, ...);
-int fflush(void *);
 int open(const char *, int, ...);
 long read(int, void *, size_t);
 int close(int);
 unsigned long strtoul(const char *, char **, int);
+char *strchr(const char *, int);
 int memcmp(const void *, const void *, size_t);
+void *memset(void *, int, size_t);
 struct timespec {
     long seconds, nanoseconds;
 };
 int clock_gettime(int, struct timespec *);
 
-/* The same calls of two solvers. */
+/* The same calls of three solvers. */
 typedef uint32_t (*Test)(const uint8_t *, size_t, uint16_t, uint16_t);
 typedef struct {
-    Test test, rounds;
+    char letter;
     uint32_t (*list)(const uint8_t *, size_t, uint16_t, uint16_t *, size_t);
     uint32_t (*best)(const uint8_t *, size_t, uint16_t, uint16_t *, size_t);
     uint32_t (*pick)(const uint8_t *, size_t, uint16_t);
+    Test test, rounds;
     uint64_t (*display)(float, float, float, const uint8_t *, size_t, uint16_t);
     uint32_t (*write)(size_t, const uint8_t *, size_t, const uint8_t *, size_t, const uint8_t *, size_t, uint8_t *, size_t);
 } Solver;
-static const Solver solver[2] = {
-    {pipeotter_reduct_test, pipeotter_rounds, pipeotter_list, pipeotter_best, pipeotter_pick, pipeotter_display,
+enum { ENGINE, LIMIT, PLAIN, SOLVERS };
+static const Solver solver[SOLVERS] = {
+    {'e', pipeotter_list, pipeotter_best, pipeotter_pick, pipeotter_reduct_test, pipeotter_rounds, pipeotter_display,
      pipeotter_write},
-    {plain_reduct_test, plain_rounds, plain_list, plain_best, plain_pick, plain_display, plain_write}};
+    {'l', limit_list, limit_best, limit_pick, 0, 0, 0, 0},
+    {'p', plain_list, plain_best, plain_pick, plain_reduct_test, plain_rounds, plain_display, plain_write}};
 
 static uint8_t page[2000];
 static size_t length;
-static uint16_t flags, sets[2][65536];
+static uint16_t flags, sets[SOLVERS][65536];
 
 /* What the writer is given: the page's own content. The counts of its rows stand apart, three a row. */
-static uint8_t counts[3 * PIPEOTTER_MOST_ROWS], written[2][PIPEOTTER_LONGEST_PAGE];
+static uint8_t counts[3 * PIPEOTTER_MOST_ROWS], written[SOLVERS][PIPEOTTER_LONGEST_PAGE];
 
 enum { LIST, TEST, ROUNDS, BEST, PICK, DISPLAY, WRITE, CALLS }; /* in this order: the tests take their sets from the list */
 
+/* What came out of one page. No time is 0: that is a call that was not made. */
+typedef struct {
+    const char *name, *fault;
+    uint32_t sets, best_sets;
+    double least[CALLS][SOLVERS];
+} Result;
+enum { MOST_PAGES = 32, PASSES = 3, MOST_TURNS = 8 };
+static Result result[MOST_PAGES], *current;
+
 /* Asks of 64 sets: answer sets spread over the list, which is asked first, and others. */
-static uint32_t listed;
 static uint32_t tests(Test test) {
-    uint32_t sum = 0, all = 1u << page[2];
+    uint32_t sum = 0, all = 1u << page[2], listed = current->sets;
     for (uint32_t i = 0; i < 64; i++) {
-        uint16_t set = i % 2 && listed ? sets[0][(i * 977) % listed] : (uint16_t)((flags | i * 40503u) % all);
+        uint16_t set = i % 2 && listed ? sets[ENGINE][(i * 977) % listed] : (uint16_t)((flags | i * 40503u) % all);
         sum = sum * 31 + test(page, length, flags, set);
     }
     return sum;
@@ -72,6 +86,11 @@ static uint64_t call(int which, int what) {
     }
 }
 
+static int is_asked(int which, int what, const char *who) {
+    if (which == LIMIT && what != LIST && what != BEST && what != PICK) return 0; /* it has these three alone */
+    return (what != BEST && what != PICK && what != DISPLAY) || strchr(who, solver[which].letter) != 0;
+}
+
 static double now(void) {
     struct timespec t;
     clock_gettime(2, &t); /* processor time of this process: the turns of other programs do not count */
@@ -80,38 +99,46 @@ static double now(void) {
 
 volatile uint64_t kept; /* the last answer, so that no call is left out */
 
-/* The time of one call, from `times` in a row. */
-static double timed(int which, int what, long times) {
+/* Times one call, from `times` in a row, and keeps the least. Answers how long they took together. */
+static double timed(int which, int what, long times, double *least) {
     double start = now();
     for (long i = 0; i < times; i++) kept = call(which, what);
-    return (now() - start) / (double)times;
+    double took = now() - start, each = took / (double)times;
+    if (*least == 0 || each < *least) *least = each;
+    return took;
 }
 
-/* The first turn compares the answers, a list's entries and the page that is written too. Then turns that are long
-   enough for the clock, the more the cheaper they are; a call of a second or more has no further turn. Answers 0 where
-   the answers differ. */
-static int measure(int what, double *least) {
-    double start = now(), middle;
-    uint64_t answer = call(0, what), other;
-    middle = now();
-    other = call(1, what);
-    least[0] = middle - start;
-    least[1] = now() - middle;
-    if (answer != other) return 0;
-    if (what == LIST || what == BEST) {
-        size_t count = PIPEOTTER_NUMBER(answer) ? 0 : PIPEOTTER_VALUE(answer);
-        if (memcmp(sets[0], sets[1], count * sizeof sets[0][0])) return 0;
-        if (what == LIST) listed = (uint32_t)count;
+/* A list's entries and the page that is written are the same too. */
+static int same(int which, int other, int what, uint64_t answer) {
+    if (what == WRITE) return answer == length && !memcmp(written[which], page, length) && !memcmp(written[other], page, length);
+    size_t stored = what == LIST || what == BEST ? PIPEOTTER_VALUE(answer) : 0;
+    return !memcmp(sets[which], sets[other], stored * sizeof sets[0][0]);
+}
+
+/* The first turn compares the answers. Then turns that are long enough for the clock, the more the cheaper they are; a
+   solver that takes a second or more has no further turn. Answers 0 where the answers differ. */
+static int measure(int what, const char *who, double *least) {
+    int first = -1, turns[SOLVERS] = {0};
+    long times[SOLVERS];
+    uint64_t answer = 0;
+    for (int which = 0; which < SOLVERS; which++) {
+        if (!is_asked(which, what, who) || least[which] >= 1) continue;
+        if (what == LIST || what == BEST) memset(sets[which], 1 + which, sizeof sets[which]); /* nothing there is right beforehand */
+        timed(which, what, 1, &least[which]);
+        if (first < 0) first = which, answer = kept;
+        if (kept != answer || !same(first, which, what, answer)) return 0;
     }
-    if (what == WRITE && PIPEOTTER_VALUE(answer) != length) return 0;
-    if (what == WRITE && (memcmp(written[0], page, length) || memcmp(written[1], page, length))) return 0;
-    double both = least[0] + least[1];
-    long times = both < 0.002 ? (long)(0.002 / both) + 1 : 1;
-    int turns = both * (double)times < 0.05 ? 20 : both < 1 ? 6 : 0;
-    for (int turn = 0; turn < 2 * turns; turn++) {
-        int which = (turn ^ turn >> 1) & 1; /* 0 1 1 0 and so on: neither is always first */
-        double t = timed(which, what, times);
-        if (t < least[which]) least[which] = t;
+    if (first >= 0 && what == LIST) current->sets = PIPEOTTER_VALUE(answer);
+    if (first >= 0 && what == BEST) current->best_sets = PIPEOTTER_VALUE(answer);
+    for (int which = 0; which < SOLVERS; which++) {
+        if (!is_asked(which, what, who) || least[which] >= 1) continue;
+        times[which] = 1;
+        while (timed(which, what, times[which], &least[which]) < 0.001) times[which] *= 2;
+        turns[which] = least[which] < 0.05 ? MOST_TURNS : 1;
+    }
+    for (int turn = 0; turn < MOST_TURNS * SOLVERS; turn++) {
+        int place = turn % SOLVERS, which = turn / SOLVERS % 2 ? SOLVERS - 1 - place : place; /* none is always first */
+        if (turns[which]-- > 0) timed(which, what, times[which], &least[which]);
     }
     return 1;
 }
@@ -125,30 +152,67 @@ static int load(const char *path) {
     return got >= 0;
 }
 
-int main(int words, char **word) {
-    int differ = 0;
+/* NAME FILE FLAGS WHO */
+static void try_page(char **word) {
+    current->name = word[0];
+    flags = (uint16_t)strtoul(word[2], 0, 0);
+    if (current->fault) return;
+    if (!load(word[1])) current->fault = "cannot be read";
+    else if (PIPEOTTER_NUMBER(pipeotter_reduct_test(page, length, flags, 0))) current->fault = "is refused";
+    for (int what = 0; what < CALLS && !current->fault; what++)
+        if (!measure(what, word[3], current->least[what])) current->fault = "the answers differ";
+}
+
+/* Three digits or so, whatever the size. */
+static void show(double time, double other) {
+    double ratio = other > 0 ? time / other : 0;
+    int digits = ratio < 0.01 ? 4 : ratio < 0.1 ? 3 : ratio < 10 ? 2 : ratio < 100 ? 1 : 0;
+    if (ratio > 0) printf(" %.*f |", digits, ratio);
+    else printf(" - |");
+}
+
+/* A line without the calls' own columns, if there is nothing to say against the page. */
+static int begins(const Result *r) {
+    printf("| %s |", r->name);
+    if (r->fault) printf(" %s |\n", r->fault);
+    else printf(" %u |", r->sets);
+    return !r->fault;
+}
+
+static void to_limit(void) {
+    static const int column[] = {LIST, BEST, PICK};
+    printf("Time of the engine over time of the limit:\n\n");
+    printf("| page | sets | best sets | list | best | pick |\n|---|---|---|---|---|---|\n");
+    for (const Result *r = result; r < current; r++) {
+        if (!begins(r)) continue;
+        printf(" %u |", r->best_sets);
+        for (int c = 0; c < 3; c++) show(r->least[column[c]][ENGINE], r->least[column[c]][LIMIT]);
+        printf("\n");
+    }
+}
+
+static void to_plain(void) {
+    static const int column[CALLS] = {TEST, ROUNDS, LIST, BEST, PICK, DISPLAY, WRITE};
+    printf("\nTime of the engine over time of plain C:\n\n");
     printf("| page | sets | test | rounds | list | best | pick | display | write ");
     printf("| pick / list, engine | pick / list, plain C |\n|---|---|---|---|---|---|---|---|---|---|---|\n");
-    for (int i = 1; i + 2 < words; i += 3) {
-        double least[CALLS][2];
-        flags = (uint16_t)strtoul(word[i + 2], 0, 0);
-        if (!load(word[i + 1])) {
-            printf("| %s | cannot be read |\n", word[i]);
-            differ = 1;
-            continue;
-        }
-        int same = 1;
-        for (int what = 0; what < CALLS && same; what++) same = measure(what, least[what]);
-        if (!same) {
-            printf("| %s | the answers differ |\n", word[i]);
-            differ = 1;
-            continue;
-        }
-        static const int column[CALLS] = {TEST, ROUNDS, LIST, BEST, PICK, DISPLAY, WRITE};
-        printf("| %s | %u |", word[i], listed);
-        for (int c = 0; c < CALLS; c++) printf(" %.2f |", least[column[c]][0] / least[column[c]][1]);
-        printf(" %.2f | %.2f |\n", least[PICK][0] / least[LIST][0], least[PICK][1] / least[LIST][1]);
-        fflush(0);
+    for (const Result *r = result; r < current; r++) {
+        if (!begins(r)) continue;
+        for (int c = 0; c < CALLS; c++) show(r->least[column[c]][ENGINE], r->least[column[c]][PLAIN]);
+        show(r->least[PICK][ENGINE], r->least[LIST][ENGINE]);
+        show(r->least[PICK][PLAIN], r->least[LIST][PLAIN]);
+        printf("\n");
     }
-    return differ;
+}
+
+int main(int words, char **word) {
+    int faults = 0;
+    for (int pass = 0; pass < PASSES; pass++) {
+        current = result;
+        for (int i = 1; i + 3 < words && current < result + MOST_PAGES; i += 4, current++) try_page(word + i);
+    }
+    for (const Result *r = result; r < current; r++) faults += r->fault != 0;
+    to_limit();
+    to_plain();
+    return faults != 0;
 }

@@ -1,5 +1,5 @@
-/* A plain C solver of the engine's own algorithm, with no proof: the yardstick for its speed, and the stand-in for it
-   when the tests themselves are tested.
+/* A plain C solver with no proof: a yardstick for the engine's speed, and the stand-in for it when the tests themselves are
+   tested.
 
    One set at a time. Only numbers between the flag word and the flag word with all head atoms are tested, since no
    other can be an answer set; 16 numbers that cannot be between are passed over at once. Pick and best climb to a

@@ -60,6 +60,14 @@ def rivals(count):
 
 letters = [chr(ord("a") + i) for i in range(16)]
 
+
+def equals():
+    """Rings of six, six and three, and for each atom a row that would rather be without it: what a set gains by an atom in
+    the one row it loses in the other, so that no two sets can be compared."""
+    rows = ring(letters[:6]) + ring(letters[6:12]) + ring(letters[12:15])
+    return rows + [f"p x {a} if {a}" for a in letters[:15]] + ["no head if p"]
+
+
 pages = {
     "two": page_bytes("ab", ["a x b"]),
     "train": page_bytes(
@@ -86,6 +94,7 @@ pages = {
     "wishes": page_bytes(letters[:15] + ["t"], ["t"] + [f"{a} x t" for a in letters[:15]]),
     "longest": page_bytes(*longest()),
     "rivals": page_bytes(*rivals(11)),
+    "equals": page_bytes(letters, equals()),
 }
 pages["tail"] = pages["train"] + b"\0"  # one byte too many
 

@@ -42,6 +42,7 @@ shows examples/rings.page 0 1
 shows examples/wishes.page 0 0
 shows examples/longest.page 0 0
 shows examples/rivals.page 0x00ff 0 # with eight of the eleven valves open: the whole page takes a while
+shows examples/equals.page 0x003f 0 # with one ring raised, for the same reason
 
 front examples/train.page 16
 python3 tests/known/meaning.py examples/train.page 0 >"$made/want"

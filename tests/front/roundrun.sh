@@ -39,6 +39,7 @@ counts examples/wishes.page 65535
 counts examples/longest.page 0
 counts examples/longest.page 0x00ff
 counts examples/rivals.page 10240
+counts examples/equals.page 4161
 
 front "$page" 7 2
 python3 tests/known/meaning.py "$page" 0 7 7 >"$made/want"

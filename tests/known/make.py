@@ -38,7 +38,7 @@ class Case:
     def __init__(self, name, data, flags=0):
         self.name, self.flags, self.page = name, flags, meaning.Page(data)
         self.calls, self.lines = [], [f"{name}, flags {flags}"]
-        self.found = None
+        self.found = self.winners = None
         CASES.append(self)
 
     def add(self, letter, first, second, line):
@@ -69,7 +69,9 @@ class Case:
         return self.found
 
     def best_sets(self):
-        return meaning.best(self.page, self.flags, self.sets())
+        if self.winners is None:
+            self.winners = meaning.best(self.page, self.flags, self.sets())
+        return self.winners
 
     def is_answer(self, s):
         return meaning.is_answer(self.page, self.flags, s)
@@ -306,6 +308,19 @@ def large_pages():
     wishes.best(1)
     wishes.best(0)
     wishes.pick()
+    equals = Case("all of them best", EXAMPLES.pages["equals"])
+    groups = [0x3f, 0xfc0, 0x7000]
+    assert equals.sets() == [s for s in range(32768) if all(s & group for group in groups)] and len(equals.sets()) == 63 * 63 * 7
+    # In every set 16 rows have degree 1, and in no two sets the same ones: none is preferred. To try each with each would take long.
+    firsts = [frozenset(meaning.rows_by_degree(equals.page, 0, s)[0]) for s in equals.sets()]
+    assert {len(rows) for rows in firsts} == {16} and len(set(firsts)) == len(firsts)
+    equals.winners = equals.sets()
+    equals.list(27783)
+    equals.best(27783)
+    equals.best(27782)  # one too few
+    equals.pick()
+    equals.degrees(4161)
+    equals.compare(4161, 32767)
 
 
 def edges():

@@ -1,7 +1,10 @@
-/* The driver: every call of the engine against the second solver, on hand-made, generated and damaged pages.
-   drive [SEED [COUNT [STOP]]]: the seed fixes the pages; COUNT of them are generated; it stops at STOP pages that
-   failed, since a broken engine may be slow too. The last line counts pages on which everything agreed, and those on
-   which something did not. It is linked with the engine's archive, or with a stand-in under the same names. */
+/* The driver: every call of the engine against the second solver, on hand-made, generated and damaged pages; and list, best
+   and pick on dense pages. On all of these that are accepted the limit must agree too.
+   drive [SEED [COUNT [STOP]]]: the seed fixes the pages; COUNT of them are generated, and one dense page for each 100; it
+   stops at STOP pages that failed, since a broken engine may be slow too. The last line counts pages on which everything
+   agreed, and those on which something did not. It is linked with the engine's archive, or with a stand-in under the same
+   names. */
+#include "../../bench/limit.h"
 #include "cases.h"
 #include "contents.h"
 #include "solver.h"
@@ -19,6 +22,11 @@ typedef uint32_t (*List)(const uint8_t *, size_t, uint16_t, uint16_t *, size_t);
 
 /* Pages that do not depend on the seed: those with known results, for the display and for the rounds, those made by hand. */
 enum { FIXED = CASES + SCREENS + CHAINS + HAND_MADE };
+
+/* 1 where plain C plays the engine: it takes one set at a time, and up to minutes for the best sets of a dense page. */
+#ifndef ONE_BY_ONE
+#define ONE_BY_ONE 0
+#endif
 
 static Random rng;
 static Random dice; /* the writer's: what is asked of it changes no page */
@@ -472,19 +480,51 @@ static void ask_refused(void) {
     ask_displays(2);
 }
 
-static void ask_all(uint16_t flags) {
+static int limit_differs(List list, const uint16_t *sets, int count) {
+    static uint16_t found[65536];
+    return list(page.copy, page.length, page.flags, found, 65536) != (uint32_t)count || memcmp(found, sets, (size_t)count * sizeof *sets) != 0;
+}
+
+/* The limit, which takes accepted pages only, is held to the second solver: the bench holds the engine to the limit. */
+static void check_limit(void) {
+    Answer pick = second_pick(&solved);
+    int wrong = limit_pick(page.copy, page.length, page.flags) != pick.number * 65536 + pick.value;
+    wrong |= limit_differs(limit_list, solved.set, solved.sets) || limit_differs(limit_best, solved.best, solved.bests);
+    if (wrong && disagrees("none")) printf("\n  the limit does not find what the second solver finds\n");
+}
+
+/* Answers 0 where the page or the flag word is refused. */
+static int solve(uint16_t flags) {
     page.flags = flags;
     second_solve(&solved, page.copy, page.length, flags);
     if (solved.roads_differ && disagrees("none")) printf("\n  the second solver's own roads differ\n");
-    if (solved.page_fault || solved.flags_fault) {
+    if (solved.page_fault || solved.flags_fault) return 0;
+    sets_seen += solved.sets;
+    check_limit();
+    return 1;
+}
+
+static void ask_all(uint16_t flags) {
+    if (!solve(flags)) {
         ask_refused();
         return;
     }
-    sets_seen += solved.sets;
     ask_lists();
     ask_about_sets();
     ask_stray_sets();
     ask_ranking();
+}
+
+static void ask_dense(uint16_t flags) {
+    solve(flags);
+    ask_in_rooms("list", pipeotter_list, solved.set, (size_t)solved.sets, second_list, 1);
+    if (ONE_BY_ONE && (long)solved.sets * solved.sets * solved.rules > 40 * DEAR) { /* each set against each */
+        bests_left_out++;
+        picks_left_out++;
+        return;
+    }
+    ask_in_rooms("best", pipeotter_best, solved.best, (size_t)solved.bests, second_best, 1);
+    ask_pick();
 }
 
 /* ---- one page, with flag words that suit it ---- */
@@ -575,6 +615,20 @@ static void try_chain(const Case *c) {
     ask_writes();
 }
 
+/* A page with many answer sets. It has random numbers of its own: what is asked of the others does not change it. */
+static void try_dense(unsigned long seed, unsigned long which) {
+    Page made;
+    Random own = {seed * 1000003 + which};
+    dense_page(&made, &own);
+    page.number++;
+    page.wrong = 0;
+    lend_page(made.byte, made.length);
+    ask_dense(0);
+    uint32_t raised = random_below(&own, 65536) & random_below(&own, 65536) & ((1u << solved.atoms) - 1);
+    if (solved.sets > 0 && !one_in(&own, 4)) raised &= solved.set[random_below(&own, (uint32_t)solved.sets)]; /* it stays one */
+    ask_dense((uint16_t)raised);
+}
+
 /* Lent 65,536 bytes more than the page has: 16 bits of its length are right, and it must be refused all the same. */
 static void try_too_long(const Page *made) {
     static uint8_t memory[65536 + sizeof made->byte];
@@ -593,6 +647,7 @@ static int letters_differ(void) {
 
 int main(int words, char **word) {
     unsigned long seed = words > 1 ? strtoul(word[1], 0, 0) : 1, count = words > 2 ? strtoul(word[2], 0, 0) : 20000;
+    unsigned long dense = count / 100;
     long passed = 0, failed = 0, stop = words > 3 ? (long)strtoul(word[3], 0, 0) : 20;
     Page made;
     Yard *yards[] = {&page_yard, &row_yard, &literal_yard, &pair_yard, &buffer_yard};
@@ -604,14 +659,15 @@ int main(int words, char **word) {
     rng.state = seed;
     dice.state = ~(unsigned long long)seed;
     *(letters_differ() ? &failed : &passed) += 1;
-    for (unsigned long i = 0; i < FIXED + count && failed < stop; i++) {
+    for (unsigned long i = 0; i < FIXED + count + dense && failed < stop; i++) {
         if (i < CASES) try_case(&cases[i]);
         else if (i < CASES + SCREENS) try_screen(&screens[i - CASES]);
         else if (i < CASES + SCREENS + CHAINS) try_chain(&chains[i - CASES - SCREENS]);
         else if (i < FIXED) {
             hand_made_page(&made, (int)(i - CASES - SCREENS - CHAINS));
             try_page(made.byte, made.length);
-        } else {
+        } else if (i >= FIXED + count) try_dense(seed, i - FIXED - count);
+        else {
             if (one_in(&rng, 3)) damage(&made, &rng);
             else generated_page(&made, &rng);
             if (one_in(&rng, 400)) try_too_long(&made);
@@ -622,7 +678,7 @@ int main(int words, char **word) {
     if (failed >= stop) printf("stopped at page %ld\n", page.number);
     printf("seed %lu: the letters, %d pages with known results, %d for the display, %d for the rounds, %d made by hand, ",
            seed, CASES, SCREENS, CHAINS, HAND_MADE);
-    printf("%lu generated; %ld calls compared, %ld answer sets listed\n", count, calls, sets_seen);
+    printf("%lu generated, %lu dense; %ld calls compared, %ld answer sets listed\n", count, dense, calls, sets_seen);
     printf("answers by number:");
     for (int n = 0; n < 16; n++) printf(" %d:%ld", n, refusals[n]);
     printf("\nof these the writer:");

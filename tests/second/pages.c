@@ -287,6 +287,61 @@ void generated_page(Page *page, Random *random) {
     write(page, &draft);
 }
 
+/* ---- dense pages ---- */
+
+static int short_body(Draft *draft, Random *random, int *body) {
+    int count = one_in(random, 4) ? between(random, 1, 2) : 0;
+    rising(random, draft->atoms, count, body);
+    return count;
+}
+
+/* A row that wants an atom, or else some others, mostly up to one that holds anyway: then it rules no set out. */
+static void want(Draft *draft, Random *random, int atom, int holds) {
+    DraftRow *row = add_row(draft);
+    add_head(row, atom);
+    for (int n = one_in(random, 2) ? 0 : below(random, 5); n > 0; n--) add_head(row, below(random, draft->atoms)); /* atoms may repeat */
+    if (!one_in(random, 8)) add_head(row, holds);
+    row->positives = short_body(draft, random, row->positive);
+    row->negatives = short_body(draft, random, row->negative);
+}
+
+/* A row that would rather be without an atom: it wants one that cannot hold. */
+static void shun(Draft *draft, Random *random, int atom, int never, int holds) {
+    DraftRow *row = add_row(draft);
+    for (int n = one_in(random, 3) ? between(random, 2, 4) : 1; n > 0; n--) add_head(row, never);
+    add_head(row, one_in(random, 2) ? holds : atom);
+    add_positive(row, atom);
+    row->negatives = short_body(draft, random, row->negative);
+}
+
+/* One atom holds and one cannot. Rings and wishes over the others, and rows against them: many sets, of which few can be
+   compared, or most. */
+void dense_page(Page *page, Random *random) {
+    Draft draft;
+    int atom[16], against = below(random, 3);
+    memset(&draft, 0, sizeof draft);
+    draft.atoms = one_in(random, 4) ? between(random, 7, 13) : between(random, 14, 16);
+    for (int i = 0; i < draft.atoms; i++) atom[i] = i;
+    shuffle(random, atom, draft.atoms);
+    int left = draft.atoms - 2, holds = atom[left], never = atom[left + 1];
+    add_head(add_row(&draft), holds);
+    add_positive(add_row(&draft), never);
+    for (int start = 0, size; start < left; start += size) {
+        size = one_in(random, 2) ? 1 : least(between(random, 2, 6), left - start);
+        if (size == 1) want(&draft, random, atom[start], holds);
+        for (int i = 0; size > 1 && i < size; i++) {
+            DraftRow *row = add_row(&draft);
+            for (int k = 0; k < size; k++) add_head(row, atom[start + (i + k) % size]);
+        }
+    }
+    for (int i = 0; i < left; i++)
+        if (against == 0 || (against == 1 && one_in(random, 3))) shun(&draft, random, atom[i], never, holds);
+    while (draft.rows < 32 && one_in(random, 2)) want(&draft, random, below(random, draft.atoms), holds);
+    shuffle_rows(&draft, random);
+    if (one_in(random, 4)) random_pairs(&draft, random);
+    write(page, &draft);
+}
+
 /* ---- damage ---- */
 
 /* A fault in the content, with a layout that fits it. */
