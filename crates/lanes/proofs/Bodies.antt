@@ -1,7 +1,7 @@
 -- The atoms of a set one after the other, the lowest first, and the two parts of a body: the lowest six atoms, which the lane's number decides, and
 -- the others, which the block decides. Assumes nothing.
 use mathlib.Core.Path.{_≡_, refl, sym, ap, _∙_, subst}
-use mathlib.Core.Bool.{Bool, true, false, _&&_, _||_, not, and-true, and-false}
+use mathlib.Core.Bool.{Bool, true, false, _&&_, _||_, not, and-true, and-false, or-true}
 use mathlib.Core.List.{List, [], _∷_}
 use Prim.Native.Nat.{ℕ, _+_, _-_, _*_, _/_, _%_, _^_, _≤_, _<_}
 use native.Mathlib.Decide.{ℕ-discrete, decLt}
@@ -12,7 +12,7 @@ use lib.Dec.{T, eqb, eqb→eq, eqb-refl, T-not, not-T}
 use lib.ListN.{length, getD, set}
 use lib.Seq.{getD-set-same, getD-set-other}
 use Rattle.atoms.specs.Atoms.{has, inside, common, lowest}
-use Rattle.atoms.proofs.Truth.{and-l, and-r, both, same-yes, true-yes, no-false}
+use Rattle.atoms.proofs.Truth.{and-l, and-r, both, same-yes, yes-true}
 use Rattle.atoms.proofs.Bits.{has-and, has-zero, has-single, has-below, has-high, inside-test, test-inside, inside-le, shl-single}
 use Rattle.atoms.proofs.Count.{lowest-in}
 use Rattle.lpod.specs.Lists.{every, some, keep, numbers, below}
@@ -49,7 +49,7 @@ module _ (p : ℕ) (h : p < 65536) (z : p ≡ 0 → ⊥) (a : ℕ) (e : a ≡ lo
   pub lowest-small : a < 16
   lowest-small = has-below 16 p a h lowest-has
 
-  rest-has : (i : ℕ) → i < 16 → has (without p a) i ≡ (has p i && not (eqb i a))
+  pub rest-has : (i : ℕ) → i < 16 → has (without p a) i ≡ (has p i && not (eqb i a))
   rest-has i l =
       has-and p (65535 - 1 * 2 ^ a % 65536) i
       ∙ ap (λ (b : Bool). has p i && b) (has-complement 16 (1 * 2 ^ a % 65536) i (omega arith) l ∙ ap (λ (x : ℕ). not (has x i)) (shl-single a lowest-small) ∙ ap (λ (b : Bool). not b) (has-single a i))
@@ -86,6 +86,23 @@ none-every (a ∷ l) s = go (has s a) (none-every l s)
     go : (b : Bool) → not (some (has s) l) ≡ every (λ a. not (has s a)) l → not (b || some (has s) l) ≡ (not b && every (λ a. not (has s a)) l)
     go true e = refl
     go false e = e
+
+-- ---- the words of atoms raised one after the other
+module _ (p : ℕ) (h : p < 65536) (z : p ≡ 0 → ⊥) (k : ℕ) (e : k ≡ lowest p) (w : List ℕ) (few : length w ≡ 16) where
+  pub raise-turn : (a j : ℕ) → a < 16 → j < 64 → (has p a || has (getD w a 0) j) ≡ (has (without p k) a || has (getD (set w k full) a 0) j)
+  raise-turn a j l m = go (ℕ-discrete a k)
+    where
+      go : Dec (a ≡ k) → (has p a || has (getD w a 0) j) ≡ (has (without p k) a || has (getD (set w k full) a 0) j)
+      go (yes q) =
+          let t : has p a ≡ true = ap (has p) q ∙ yes-true (has p k) (lowest-has p h z k e) in
+          let f : has (getD (set w k full) a 0) j ≡ true =
+          ap (λ (i : ℕ). has (getD (set w k full) i 0) j) q ∙ ap (λ (x : ℕ). has x j) (getD-set-same w k full 0 (omega (arith, few, lowest-small p h z k e))) ∙ has-full j m in
+          rw (t, f) (sym (or-true (has (without p k) a)))
+      go (no n) =
+          rw (rest-has p h z k e a l, ne-eqb a k n, getD-set-other w k a full 0 n) (ap (λ (b : Bool). b || has (getD w a 0) j) (sym (and-true (has p a))))
+
+pub raise-end : (p : ℕ) (w : List ℕ) → p ≡ 0 → (a j : ℕ) → (has p a || has (getD w a 0) j) ≡ has (getD w a 0) j
+raise-end p w e a j = rw (e, has-zero a)
 
 -- ---- the two loops, in one lane: y is what is left of the lanes, w the word of the lowest atom
 module _ (p : ℕ) (h : p < 65536) (z : p ≡ 0 → ⊥) (a : ℕ) (e : a ≡ lowest p) (w : List ℕ) (v : ℕ) (ev : v ≡ getD w a 0) (y j : ℕ) where

@@ -88,17 +88,3 @@ module _ (v w : List ℕ) (j : ℕ) where
   pub same-end : (k : ℕ) (t : Bool) → length v ≤ k → length w ≤ k → (t && sameFrom k v w j) ≡ t
   unfolding column
   same-end k t hv hw = rw (drop-of-length-le v hv, drop-of-length-le w hw) (and-true t)
-
--- ---- one set in every lane, made word by word
-abbrev pub SpreadTo : ℕ → ℕ → List ℕ → Type 0
-SpreadTo f n w = (a : ℕ) → a < n → (j : ℕ) → j < 64 → has (getD w a 0) j ≡ has f a
-
-pub spread-more : (f n x : ℕ) (w : List ℕ) → n < length w → SpreadTo f n w → ((j : ℕ) → j < 64 → has x j ≡ has f n) → SpreadTo f (n + 1) (set w n x)
-spread-more f n x w k g e a h j l = go (ℕ-discrete a n)
-  where
-    go : Dec (a ≡ n) → has (getD (set w n x) a 0) j ≡ has f a
-    go (yes p) = ap (λ (i : ℕ). has (getD (set w n x) i 0) j) p ∙ ap (λ (y : ℕ). has y j) (getD-set-same w n x 0 k) ∙ e j l ∙ ap (has f) (sym p)
-    go (no p) = ap (λ (y : ℕ). has y j) (getD-set-other w n a x 0 p) ∙ g a (omega arith) j l
-
-pub spread-all : (f : ℕ) (w : List ℕ) → f < 2 ^ 16 → length w ≡ 16 → SpreadTo f 16 w → (j : ℕ) → j < 64 → column w j ≡ f
-spread-all f w h k g j l = has-ext 16 (column w j) f (subst (λ (n : ℕ). column w j < 2 ^ n) k (column-lt w j)) h (λ i m. has-column w j i ∙ g i m j l)

@@ -1,21 +1,20 @@
 -- Words of 64 lanes: bits of a complement and of a difference, the set in a lane, and the words of a block. The words of the lowest six atoms are one
 -- computed table. Assumes nothing.
 use mathlib.Core.Path.{_≡_, refl, sym, ap, _∙_, subst}
-use mathlib.Core.Bool.{Bool, true, false, _&&_, not, cond}
+use mathlib.Core.Bool.{Bool, true, false, _&&_, _||_, not, cond, or-false}
 use mathlib.Core.List.{List, [], _∷_}
 use Prim.Native.Nat.{ℕ, zero, suc, _+_, _-_, _*_, _/_, _%_, _^_, _≤_, _<_}
 use native.Mathlib.Nat.{mod-lt, zero-lt-suc, pow-suc}
-use native.Mathlib.Decide.{ℕ-discrete}
+use native.Mathlib.Decide.{decLt}
 use native.Mathlib.Omega.{arith}
 use lib.Dec.{T, eqb}
 use lib.Pow.{shr-shr}
-use lib.ListN.{getD, length, set, length-set}
-use lib.Seq.{getD-set-same, getD-set-other}
+use lib.ListN.{getD, length, replicate, getD-replicate}
 use Rattle.atoms.specs.Atoms.{has}
-use Rattle.atoms.proofs.Bits.{two, has-low, has-next, has-zero, has-ext}
+use Rattle.atoms.proofs.Bits.{two, has-low, has-next, has-zero, has-high, has-ext}
 use Rattle.lpod.specs.Lists.{every, numbers, below}
 use Rattle.lpod.proofs.Lists.{every-at, numbers-in}
-use Rattle.lanes.specs.Lanes.{Says, column, Block}
+use Rattle.lanes.specs.Lanes.{column, Block}
 
 -- ---- the complement in k bits
 not-low : (p x : ℕ) → x < p * 2 → eqb ((p * 2 - 1 - x) % 2) 1 ≡ not (eqb (x % 2) 1)
@@ -119,23 +118,29 @@ low-words a j h l =
     (every-at (λ a. every (λ j. same (has (getD laneWords a 0) j) (has j a)) (below 64)) (below 16) table a (numbers-in 0 16 a (omega arith) (omega arith)))
     j (numbers-in 0 64 j (omega arith) (omega arith)))
 
--- ---- made word by word: the first n words are those of block b
-abbrev pub WordsTo : ℕ → ℕ → List ℕ → Type 0
-WordsTo b n w = (a : ℕ) → a < n → Says b (getD w a 0) (λ s. has s a)
-
-pub words-low : (b : ℕ) → WordsTo b 6 laneWords
-words-low b a h j l = low-words a j (omega arith) l ∙ sym (low-six b j a h)
-
--- one word more: x is all ones where b has the atom, and else nothing
-pub words-more : (b n x : ℕ) (w : List ℕ) → n < length w → 6 ≤ n → WordsTo b n w → ((j : ℕ) → j < 64 → has x j ≡ has b (n - 6)) → WordsTo b (n + 1) (set w n x)
-words-more b n x w k s f e a h j l = go (ℕ-discrete a n)
+-- ---- these with the words of the upper atoms raised: an atom of a set of block b is one of 64 b, or one of the lane's number
+both-parts : (b j a : ℕ) → j < 64 → (has (64 * b) a || has j a) ≡ has (64 * b + j) a
+both-parts b j a l = go (decLt a 6)
   where
-    go : Dec (a ≡ n) → has (getD (set w n x) a 0) j ≡ has (64 * b + j) a
-    go (yes p) =
-        ap (λ (i : ℕ). has (getD (set w n x) i 0) j) p ∙ ap (λ (y : ℕ). has y j) (getD-set-same w n x 0 k)
-        ∙ e j l ∙ sym (high-ten b j n l s) ∙ ap (λ (i : ℕ). has (64 * b + j) i) (sym p)
-    go (no p) = ap (λ (y : ℕ). has y j) (getD-set-other w n a x 0 p) ∙ f a (omega arith) j l
+    upper : 64 * b ≡ 64 * b + 0
+    upper = omega arith
 
-pub words-all : (w : List ℕ) (b : ℕ) → b < 1024 → length w ≡ 16 → WordsTo b 16 w → Block b w
-words-all w b h k f =
-    (k, λ j l. has-ext 16 (column w j) (64 * b + j) (subst (λ (n : ℕ). column w j < 2 ^ n) k (column-lt w j)) (omega arith) (λ i m. has-column w j i ∙ f i m j l))
+    go : Dec (a < 6) → (has (64 * b) a || has j a) ≡ has (64 * b + j) a
+    go (yes k) = ap (λ (x : ℕ). has x a || has j a) upper ∙ rw (low-six b 0 a k, has-zero a) (sym (low-six b j a k))
+    go (no k) =
+        let h : 6 ≤ a = omega arith in
+        ap (λ (x : ℕ). has x a || has j a) upper ∙ rw (high-ten b 0 a (omega arith) h, has-high 6 j a l h) (or-false (has b (a - 6)) ∙ sym (high-ten b j a l h))
+
+pub block-made : (w : List ℕ) (b : ℕ) → b < 1024 → length w ≡ 16 → ((a j : ℕ) → a < 16 → j < 64 → has (getD w a 0) j ≡ (has (64 * b) a || has (getD laneWords a 0) j)) → Block b w
+block-made w b h k f = (
+  k,
+  λ j l. has-ext 16 (column w j) (64 * b + j) (subst (λ (n : ℕ). column w j < 2 ^ n) k (column-lt w j)) (omega arith)
+      (λ a m. has-column w j a ∙ f a j m l ∙ ap (λ (c : Bool). has (64 * b) a || c) (low-words a j m l) ∙ both-parts b j a l),
+)
+
+-- the same set in every lane
+pub same-made : (w : List ℕ) (s : ℕ) → s < 65536 → length w ≡ 16 → ((a j : ℕ) → a < 16 → j < 64 → has (getD w a 0) j ≡ (has s a || has (getD (replicate 16 0) a 0) j))
+    → (j : ℕ) → j < 64 → column w j ≡ s
+same-made w s h k f j l =
+    has-ext 16 (column w j) s (subst (λ (n : ℕ). column w j < 2 ^ n) k (column-lt w j)) (omega arith)
+    (λ a m. has-column w j a ∙ f a j m l ∙ ap (λ (x : ℕ). has s a || has x j) (getD-replicate 16 a 0 0 m) ∙ rw (has-zero j) (or-false (has s a)))

@@ -33,11 +33,7 @@ fn flag_words(flags: u16) -> [u64; 16]
     ensures { λ r. ⌜ (length r ≡ 16) × ((j : ℕ) → j < 64 → means.column r j ≡ flags) ⌝ }
 {
     let mut w = [0u64; 16];
-    let mut a: u8 = 0;
-    while a < 16 {
-        w[a as usize] = word::spread(atoms::holds(flags, a));
-        a += 1;
-    }
+    word::raise(flags, &mut w);
     w
 }
 

@@ -186,8 +186,8 @@ pub fn worse(rows: &[u64], lows: &[u64], grades: &[u8], deepest: u8, b: u16, amo
     lost
 }
 
-// The index word of a block: bit n where some lane of `among` has degree 1 in row n.
-pub fn firsts(rows: &[u64], lows: &[u64], b: u16, among: u64) -> u32
+// Bit n where some lane of `among` has degree 1 in row n.
+fn first_lanes(rows: &[u64], lows: &[u64], b: u16, among: u64) -> u32
     requires { ⌜ (b < 1024) × LowBodies (now rows) (now lows) × (length (now rows) ≤ length (now lows)) × (length (now rows) ≤ 32) ⌝ }
     ensures { λ r. ⌜ ((n j : ℕ) → n < length (now (rows .entry)) → j < 64 → T (has among j) → degree (64 * b + j) (ruleIn (getD (now (rows .entry)) n 0)) ≡ 1 → T (has r n)) ⌝ }
 {
@@ -202,4 +202,15 @@ pub fn firsts(rows: &[u64], lows: &[u64], b: u16, among: u64) -> u32
         n += 1;
     }
     x
+}
+
+// The index word of a block. Most blocks have no lane that counts.
+pub fn firsts(rows: &[u64], lows: &[u64], b: u16, among: u64) -> u32
+    requires { ⌜ (b < 1024) × LowBodies (now rows) (now lows) × (length (now rows) ≤ length (now lows)) × (length (now rows) ≤ 32) ⌝ }
+    ensures { λ r. ⌜ ((n j : ℕ) → n < length (now (rows .entry)) → j < 64 → T (has among j) → degree (64 * b + j) (ruleIn (getD (now (rows .entry)) n 0)) ≡ 1 → T (has r n)) ⌝ }
+{
+    if among == 0 {
+        return 0;
+    }
+    first_lanes(rows, lows, b, among)
 }

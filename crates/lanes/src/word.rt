@@ -1,6 +1,6 @@
 // The words of a block, and the lanes in which a body holds.
 ghost use mathlib.Core.Path.{_≡_};
-ghost use mathlib.Core.Bool.{_&&_};
+ghost use mathlib.Core.Bool.{_&&_, _||_};
 ghost use Prim.Native.Nat.{ℕ, _≤_, _<_};
 ghost use lib.ListN.{length, getD};
 ghost use Rattle.atoms.specs.Atoms.{has};
@@ -28,14 +28,17 @@ const LANES: [u64; 16] = [
     0,
 ];
 
-// All lanes or none.
-pub fn spread(yes: bool) -> u64
-    ensures { λ r. ⌜ ((j : ℕ) → j < 64 → has r j ≡ yes) ⌝ }
+// The words of these atoms get all lanes.
+pub fn raise(raised: u16, w: &mut [u64; 16])
+    requires { ⌜ length (now w) ≡ 16 ⌝ }
+    ensures { λ r. ⌜ (length (now (w .exit)) ≡ 16) × ((a j : ℕ) → a < 16 → j < 64 → has (getD (now (w .exit)) a 0) j ≡ (has raised a || has (getD (now (w .entry)) a 0) j)) ⌝ }
 {
-    if yes {
-        return 0xFFFF_FFFF_FFFF_FFFF;
+    let mut rest = raised;
+    while rest != 0 {
+        let a = atoms::lowest(rest);
+        w[a as usize] = 0xFFFF_FFFF_FFFF_FFFF;
+        rest = rest & !(1 << a);
     }
-    0
 }
 
 // The words of block b.
@@ -44,11 +47,7 @@ pub fn block_words(b: u16) -> [u64; 16]
     ensures { λ r. ⌜ means.Block b r ⌝ }
 {
     let mut w = LANES;
-    let mut a: u8 = 6;
-    while a < 16 {
-        w[a as usize] = spread(atoms::holds(b, a - 6));
-        a += 1;
-    }
+    raise(64 * b, &mut w);
     w
 }
 
