@@ -4,8 +4,7 @@ use mathlib.Core.Path.{_≡_, refl, sym, ap, _∙_, subst}
 use mathlib.Core.Bool.{Bool, _&&_, not}
 use mathlib.Core.Logic.{⊎-elim}
 use mathlib.Core.List.{List, [], _∷_, List·Memᴰ, List·Memᴰ·head, List·Memᴰ·tail, List·Memᴰ·cases-cons, List·Memᴰ·append-cases}
-use mathlib.Core.Option.{Option, some, none}
-use Prim.Native.Nat.{ℕ, zero, suc, _+_, _*_, _/_, _%_, _^_, _≤_, _<_}
+use Prim.Native.Nat.{ℕ, zero, suc, _/_, _^_, _<_}
 use native.Mathlib.Omega.{arith}
 use lib.Dec.{T}
 use Rattle.atoms.specs.Atoms.{has, inside, union}
@@ -16,18 +15,17 @@ use Rattle.lpod.specs.Rule.{Program, rules, setOf, headAtoms}
 use Rattle.lpod.specs.Satisfied.{satisfiesAll}
 use Rattle.lpod.specs.Answer.{answer, answerSets}
 use Rattle.lpod.specs.Preferred.{preferred}
-use Rattle.lpod.specs.Best.{noneOver, bestOf, bestSets, firstOf, pick}
+use Rattle.lpod.specs.Best.{noneOver, bestOf, bestSets}
 use Rattle.lpod.proofs.Lists.{in-keep, in-numbers}
 use Rattle.lpod.proofs.AnswerParts.{answer-says}
 use Rattle.lpod.proofs.Between.{flags-inside, inside-heads}
 use Rattle.words.specs.Coded.{digits, ruleIn, rulesIn, pairsIn, rulesWith, programIn}
 use Rattle.words.proofs.Sets.{atoms-set}
-use Rattle.lanes.specs.Seek.{nextFrom, allFrom}
+use Rattle.lanes.specs.Seek.{allFrom}
 use Rattle.lanes.specs.Marks.{marked, Within}
 use Rattle.lanes.specs.Tried.{topOf, tried}
 use Rattle.lanes.specs.Rank.{over, ranks}
 use Rattle.lanes.specs.Search.{bestAmong, soughtBest}
-use Rattle.lanes.proofs.Seek.{next-passes, all-first, all-here, all-past}
 use Rattle.lanes.proofs.Kept.{keep-same, keep-both}
 use Rattle.lanes.proofs.Filled.{inside-high}
 use Rattle.lanes.proofs.RankedRows.{ranking-law}

@@ -13,7 +13,7 @@ use lib.ListN.{length, getD, set}
 use lib.Seq.{getD-set-same, getD-set-other}
 use Rattle.atoms.specs.Atoms.{has, inside, common, lowest}
 use Rattle.atoms.proofs.Truth.{and-l, and-r, both, same-yes, yes-true}
-use Rattle.atoms.proofs.Bits.{has-and, has-zero, has-single, has-below, has-high, inside-test, test-inside, inside-le, shl-single}
+use Rattle.atoms.proofs.Bits.{has-and, has-zero, has-single, has-below, inside-le, shl-single}
 use Rattle.atoms.proofs.Count.{lowest-in}
 use Rattle.lpod.specs.Lists.{every, some, keep, numbers, below}
 use Rattle.lpod.proofs.Lists.{every-at, every-made, keep-in, in-keep, numbers-in}

@@ -1,6 +1,6 @@
 -- Words of sixteen atoms, changed and compared: an atom that goes in where a word says; the lanes in which two have the same set, one word at a time;
 -- the same set in every lane. Assumes nothing.
-use mathlib.Core.Path.{_≡_, refl, sym, ap, _∙_, subst}
+use mathlib.Core.Path.{_≡_, refl, sym, ap, _∙_}
 use mathlib.Core.Bool.{Bool, true, false, _&&_, _||_, not, cond, and-true, and-false, and-assoc, or-false}
 use mathlib.Core.List.{List}
 use Prim.Native.Nat.{ℕ, suc, _+_, _-_, _*_, _/_, _%_, _^_, _≤_, _<_}
@@ -15,9 +15,9 @@ use lib.ListN.{getD, length, set, length-set, drop, drop-of-length-le}
 use lib.Seq.{drop-cons, getD-set-same, getD-set-other}
 use Rattle.atoms.specs.Atoms.{has, insert}
 use Rattle.atoms.proofs.Truth.{same-yes, true-yes}
-use Rattle.atoms.proofs.Bits.{two, has-and, has-or, has-insert, has-ext, same-atoms}
+use Rattle.atoms.proofs.Bits.{two, has-and, has-or, has-insert, same-atoms}
 use Rattle.lanes.specs.Lanes.{column}
-use Rattle.lanes.proofs.Words.{full, has-not, has-column, column-lt}
+use Rattle.lanes.proofs.Words.{full, has-not, has-column}
 
 -- ---- an atom goes in
 module _ (ws : List ℕ) (a v j : ℕ) (k : a < length ws) where

@@ -3,7 +3,7 @@
 use mathlib.Core.Path.{_≡_, refl, sym, ap, _∙_, subst}
 use mathlib.Core.Bool.{Bool, true, false, _&&_, not, cond}
 use mathlib.Core.List.{List}
-use Prim.Native.Nat.{ℕ, _+_, _-_, _*_, _/_, _%_, _^_, _≤_, _<_}
+use Prim.Native.Nat.{ℕ, _+_, _-_, _*_, _/_, _%_, _<_}
 use native.Mathlib.Decide.{ℕ-discrete, decLt}
 use native.Mathlib.Nat.{lt-of-not-le}
 use native.Mathlib.Omega.{arith}
@@ -11,7 +11,7 @@ use lib.Dec.{T, T-not, not-T, eqb, ltb, lt→ltb, ltb→lt}
 use lib.ListN.{length, set}
 use borrow.Author.Tests.{ne-eqb, eq-eqb}
 use Rattle.atoms.specs.Atoms.{has, inside}
-use Rattle.atoms.proofs.Truth.{and-l, and-r, both, same-yes, yes-true, no-false, false-no}
+use Rattle.atoms.proofs.Truth.{and-l, and-r, both, same-yes, yes-true, no-false}
 use Rattle.atoms.proofs.Bits.{has-below, inside-test, test-inside, inside-le}
 use Rattle.lpod.specs.Lists.{every}
 use Rattle.lpod.specs.Satisfied.{allIn, noneIn}

@@ -11,7 +11,7 @@ use lib.Bits.{bitAnd, bitOr, or-shr, or-mod, or-zero-l, or-zero-r, or-add-and, o
 use lib.Dec.{T, T-not}
 use Rattle.atoms.specs.Atoms.{has, Inside, inside}
 use Rattle.atoms.proofs.Truth.{or-l, or-r, or-cases, and-l, and-r, both}
-use Rattle.atoms.proofs.Bits.{two, has-and, has-or, has-low, has-next, has-zero, has-ext, has-below, inside-and, inside-both, inside-le, inside-test, test-inside}
+use Rattle.atoms.proofs.Bits.{two, has-and, has-or, has-low, has-next, has-zero, has-ext, has-below, inside-both, inside-le, inside-test, test-inside}
 use Rattle.lanes.proofs.Words.{has-complement}
 
 -- ---- a carry past the places of f

@@ -2,7 +2,7 @@
 -- that is over M has degree 1 wherever M has; so nothing is over a set that has degree 1 in every row. Rows with at most one head atom have degree 1
 -- in every set that satisfies them: they do not rank such sets, and nor do the rows of raised atoms. Assumes nothing.
 use mathlib.Core.Path.{_≡_, refl, sym, ap, _∙_, subst}
-use mathlib.Core.Bool.{Bool, false}
+use mathlib.Core.Bool.{false}
 use mathlib.Core.Logic.{_⊎_, inl, inr, ⊎-elim, _↔_}
 use mathlib.Core.List.{List, [], _∷_, _++_, map, append-nil, List·Memᴰ, List·Memᴰ·append-cases, Memᴰ·append-left}
 use Prim.Native.Nat.{ℕ, _+_, _≤_, _<_}

@@ -1,7 +1,7 @@
 -- Words of 64 lanes: bits of a complement and of a difference, the set in a lane, and the words of a block. The words of the lowest six atoms are one
 -- computed table. Assumes nothing.
 use mathlib.Core.Path.{_≡_, refl, sym, ap, _∙_, subst}
-use mathlib.Core.Bool.{Bool, true, false, _&&_, _||_, not, cond, or-false}
+use mathlib.Core.Bool.{Bool, true, false, _||_, not, cond, or-false}
 use mathlib.Core.List.{List, [], _∷_}
 use Prim.Native.Nat.{ℕ, zero, suc, _+_, _-_, _*_, _/_, _%_, _^_, _≤_, _<_}
 use native.Mathlib.Nat.{mod-lt, zero-lt-suc, pow-suc}

@@ -3,8 +3,6 @@ use Rattle.engine.specs.Lists.{isBest}
 use borrow.Author.Needs.{needs}
 use Rattle.engine.proofs.list.is_best.Statement.{statement}
 use Rattle.engine.proofs.list.is_best.Tie as tie
-use Rattle.engine.proofs.list.is_best.Reads as reads
-use Rattle.engine.proofs.list.is_best.Lts as lts
 
 enum-told : tie.Need-enum-told
 enum-told c = search needs

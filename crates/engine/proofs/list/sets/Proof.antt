@@ -11,15 +11,6 @@ use Rattle.engine.proofs.SetsStored.{says-refused, says-short, says-sto
 use borrow.Author.Needs.{needs}
 use Rattle.engine.proofs.list.sets.Statement.{statement}
 use Rattle.engine.proofs.list.sets.Tie as tie
-use Rattle.engine.proofs.list.sets.Reads as reads
-use Rattle.engine.proofs.list.sets.Lts as lts
-use Rattle.engine.proofs.list.is_best.Reads as is-best-reads
-use Rattle.lanes.proofs.sets.sets.Reads as sets-reads
-use Rattle.page.proofs.accept.flag_no.Reads as flag-no-reads
-use Rattle.words.proofs.read.pair_total.Reads as pair-total-reads
-use Rattle.words.proofs.read.pair_words.Reads as pair-words-reads
-use Rattle.words.proofs.read.row_total.Reads as row-total-reads
-use Rattle.words.proofs.read.row_words.Reads as row-words-reads
 
 flag-no-requires : tie.Need-flag-no-requires
 flag-no-requires c κs = search needs

@@ -9,14 +9,6 @@ use Rattle.engine.proofs.Picks.{pick-refused, pick-none, pick-found}
 use borrow.Author.Needs.{needs}
 use Rattle.engine.proofs.pick.pick.Statement.{statement}
 use Rattle.engine.proofs.pick.pick.Tie as tie
-use Rattle.engine.proofs.pick.pick.Reads as reads
-use Rattle.engine.proofs.pick.pick.Lts as lts
-use Rattle.lanes.proofs.sets.pick.Reads as pick-reads
-use Rattle.page.proofs.accept.flag_no.Reads as flag-no-reads
-use Rattle.words.proofs.read.pair_total.Reads as pair-total-reads
-use Rattle.words.proofs.read.pair_words.Reads as pair-words-reads
-use Rattle.words.proofs.read.row_total.Reads as row-total-reads
-use Rattle.words.proofs.read.row_words.Reads as row-words-reads
 
 flag-no-requires : tie.Need-flag-no-requires
 flag-no-requires c κs = search needs

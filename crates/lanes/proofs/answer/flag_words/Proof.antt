@@ -3,9 +3,6 @@ use Rattle.lanes.proofs.Words.{same-made}
 use borrow.Author.Needs.{needs}
 use Rattle.lanes.proofs.answer.flag_words.Statement.{statement}
 use Rattle.lanes.proofs.answer.flag_words.Tie as tie
-use Rattle.lanes.proofs.answer.flag_words.Reads as reads
-use Rattle.lanes.proofs.answer.flag_words.Lts as lts
-use Rattle.lanes.proofs.word.raise.Reads as raise-reads
 
 raise-requires : tie.Need-raise-requires
 raise-requires c κs = search needs

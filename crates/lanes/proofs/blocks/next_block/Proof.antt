@@ -4,8 +4,6 @@ use lib.Bits.{and-le-r}
 use Rattle.lanes.proofs.NextBlock.{shut-below, none-found, next-found}
 use Rattle.lanes.proofs.blocks.next_block.Statement.{statement}
 use Rattle.lanes.proofs.blocks.next_block.Tie as tie
-use Rattle.lanes.proofs.blocks.next_block.Reads as reads
-use Rattle.lanes.proofs.blocks.next_block.Lts as lts
 
 sub-shut : tie.Need-sub-shut
 sub-shut c = and-le-r (c .args .high) 1023

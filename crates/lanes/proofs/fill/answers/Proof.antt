@@ -1,7 +1,7 @@
 -- `fill::answers` goes from block to block between. What is kept: the sets of the blocks that are done have their marks, and no other set has one.
 -- Assumes nothing.
 use Prim.Native.Nat.{_-_, _+_, _/_, _≤_, _<_}
-use mathlib.Core.Path.{_≡_, refl, _∙_}
+use mathlib.Core.Path.{_≡_, _∙_}
 use native.Mathlib.Omega.{arith}
 use denote.Ref.{now}
 use lib.Dec.{T}
@@ -12,11 +12,6 @@ use Rattle.words.specs.Coded.{programIn}
 use Rattle.lanes.proofs.Filled.{FilledTo, filled-none, filled-more, filled-all, inside-high, inside-self, lane-flags, lane-passes}
 use Rattle.lanes.proofs.fill.answers.Statement.{statement}
 use Rattle.lanes.proofs.fill.answers.Tie as tie
-use Rattle.lanes.proofs.fill.answers.Reads as reads
-use Rattle.lanes.proofs.fill.answers.Lts as lts
-use Rattle.lanes.proofs.answer.answers.Reads as answers-reads
-use Rattle.lanes.proofs.blocks.next_block.Reads as next-block-reads
-use Rattle.lanes.proofs.fill.between.Reads as between-reads
 
 abbrev Inv-loop : tie.InvT-loop
 Inv-loop rows lows pairs flags top marks₀ low high x b₀ marks b =

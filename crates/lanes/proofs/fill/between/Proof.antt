@@ -3,11 +3,6 @@ use Rattle.lanes.proofs.Filled.{between-made}
 use borrow.Author.Needs.{needs}
 use Rattle.lanes.proofs.fill.between.Statement.{statement}
 use Rattle.lanes.proofs.fill.between.Tie as tie
-use Rattle.lanes.proofs.fill.between.Reads as reads
-use Rattle.lanes.proofs.fill.between.Lts as lts
-use Rattle.lanes.proofs.word.all_in.Reads as all-in-reads
-use Rattle.lanes.proofs.word.block_words.Reads as block-words-reads
-use Rattle.lanes.proofs.word.none_in.Reads as none-in-reads
 
 block-words-requires : tie.Need-block-words-requires
 block-words-requires c κs = search needs

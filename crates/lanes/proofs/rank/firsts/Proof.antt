@@ -7,9 +7,6 @@ use Rattle.atoms.proofs.Bits.{has-zero}
 use borrow.Author.Needs.{needs}
 use Rattle.lanes.proofs.rank.firsts.Statement.{statement}
 use Rattle.lanes.proofs.rank.firsts.Tie as tie
-use Rattle.lanes.proofs.rank.firsts.Reads as reads
-use Rattle.lanes.proofs.rank.firsts.Lts as lts
-use Rattle.lanes.proofs.rank.first_lanes.Reads as first-lanes-reads
 
 returns : tie.Need-returns
 returns c = λ n j l m t e. absurd (subst T (ap (λ (x : ℕ). has x j) (c .if1 .taken) ∙ has-zero j) t)

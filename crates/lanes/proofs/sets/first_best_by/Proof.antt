@@ -11,10 +11,6 @@ use Rattle.lanes.specs.Search.{soughtBest}
 use borrow.Author.Needs.{needs}
 use Rattle.lanes.proofs.sets.first_best_by.Statement.{statement}
 use Rattle.lanes.proofs.sets.first_best_by.Tie as tie
-use Rattle.lanes.proofs.sets.first_best_by.Reads as reads
-use Rattle.lanes.proofs.sets.first_best_by.Lts as lts
-use Rattle.lanes.proofs.rank.ranking.Reads as ranking-reads
-use Rattle.lanes.proofs.sets.first_best.Reads as first-best-reads
 
 ranking-requires : tie.Need-ranking-requires
 ranking-requires c κs = search needs

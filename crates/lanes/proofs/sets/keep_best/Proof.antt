@@ -2,12 +2,6 @@ use native.Mathlib.Omega.{arith}
 use borrow.Author.Needs.{needs}
 use Rattle.lanes.proofs.sets.keep_best.Statement.{statement}
 use Rattle.lanes.proofs.sets.keep_best.Tie as tie
-use Rattle.lanes.proofs.sets.keep_best.Reads as reads
-use Rattle.lanes.proofs.sets.keep_best.Lts as lts
-use Rattle.lanes.proofs.rank.deepest.Reads as deepest-reads
-use Rattle.lanes.proofs.search.indexes.Reads as indexes-reads
-use Rattle.lanes.proofs.search.keep_best.Reads as keep-best-reads
-use Rattle.lanes.proofs.word.low_bodies.Reads as low-bodies-reads
 
 low-bodies-requires : tie.Need-low-bodies-requires
 low-bodies-requires c κs = search needs

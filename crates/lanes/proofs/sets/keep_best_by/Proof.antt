@@ -10,10 +10,6 @@ use Rattle.lanes.specs.Search.{soughtBest}
 use borrow.Author.Needs.{needs}
 use Rattle.lanes.proofs.sets.keep_best_by.Statement.{statement}
 use Rattle.lanes.proofs.sets.keep_best_by.Tie as tie
-use Rattle.lanes.proofs.sets.keep_best_by.Reads as reads
-use Rattle.lanes.proofs.sets.keep_best_by.Lts as lts
-use Rattle.lanes.proofs.rank.ranking.Reads as ranking-reads
-use Rattle.lanes.proofs.sets.keep_best.Reads as keep-best-reads
 
 ranking-requires : tie.Need-ranking-requires
 ranking-requires c κs = search needs

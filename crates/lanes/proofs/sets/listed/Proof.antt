@@ -4,10 +4,6 @@ use Rattle.lanes.proofs.Listed.{found-short, found-stored}
 use borrow.Author.Needs.{needs}
 use Rattle.lanes.proofs.sets.listed.Statement.{statement}
 use Rattle.lanes.proofs.sets.listed.Tie as tie
-use Rattle.lanes.proofs.sets.listed.Reads as reads
-use Rattle.lanes.proofs.sets.listed.Lts as lts
-use Rattle.lanes.proofs.marks.count.Reads as count-reads
-use Rattle.lanes.proofs.marks.store.Reads as store-reads
 
 count-requires : tie.Need-count-requires
 count-requires c κs = search needs

@@ -7,10 +7,6 @@ use Rattle.lanes.proofs.AllSets.{flags-top, within-all, all-answers, al
 use borrow.Author.Needs.{needs}
 use Rattle.lanes.proofs.sets.mark.Statement.{statement}
 use Rattle.lanes.proofs.sets.mark.Tie as tie
-use Rattle.lanes.proofs.sets.mark.Reads as reads
-use Rattle.lanes.proofs.sets.mark.Lts as lts
-use Rattle.lanes.proofs.fill.answers.Reads as answers-reads
-use Rattle.lanes.proofs.word.low_bodies.Reads as low-bodies-reads
 
 low-bodies-requires : tie.Need-low-bodies-requires
 low-bodies-requires c κs = search needs

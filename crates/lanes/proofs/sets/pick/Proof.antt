@@ -12,9 +12,6 @@ use Rattle.lanes.specs.Sets.{programOf, numberOf}
 use borrow.Author.Needs.{needs}
 use Rattle.lanes.proofs.sets.pick.Statement.{statement}
 use Rattle.lanes.proofs.sets.pick.Tie as tie
-use Rattle.lanes.proofs.sets.pick.Reads as reads
-use Rattle.lanes.proofs.sets.pick.Lts as lts
-use Rattle.lanes.proofs.sets.pick_to.Reads as pick-to-reads
 
 slice-aggregate-pick-to : tie.Need-slice-aggregate-pick-to
 slice-aggregate-pick-to c = let l = c .before .if1 .taken in words-many 32 (now (c .before .before .before .before .args .rows)) (omega arith)

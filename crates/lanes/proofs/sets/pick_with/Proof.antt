@@ -9,10 +9,6 @@ use Rattle.lanes.proofs.Listed.{first-number, may-list}
 use borrow.Author.Needs.{needs}
 use Rattle.lanes.proofs.sets.pick_with.Statement.{statement}
 use Rattle.lanes.proofs.sets.pick_with.Tie as tie
-use Rattle.lanes.proofs.sets.pick_with.Reads as reads
-use Rattle.lanes.proofs.sets.pick_with.Lts as lts
-use Rattle.lanes.proofs.sets.first_best_by.Reads as first-best-by-reads
-use Rattle.lanes.proofs.sets.mark.Reads as mark-reads
 
 mark-requires : tie.Need-mark-requires
 mark-requires c κs = search needs

@@ -12,9 +12,6 @@ use Rattle.lanes.proofs.Listed.{found-same}
 use borrow.Author.Needs.{needs}
 use Rattle.lanes.proofs.sets.sets.Statement.{statement}
 use Rattle.lanes.proofs.sets.sets.Tie as tie
-use Rattle.lanes.proofs.sets.sets.Reads as reads
-use Rattle.lanes.proofs.sets.sets.Lts as lts
-use Rattle.lanes.proofs.sets.sets_to.Reads as sets-to-reads
 
 slice-aggregate-sets-to : tie.Need-slice-aggregate-sets-to
 slice-aggregate-sets-to c = let l = c .before .if1 .taken in words-many 32 (now (c .before .before .before .before .before .args .rows)) (omega arith)

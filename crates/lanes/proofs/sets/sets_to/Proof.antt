@@ -1,17 +1,13 @@
 -- `sets::sets_to` lends as many words as there are blocks up to top, of a small array or of one for all sets. Assumes nothing.
 use mathlib.Core.Path.{sym}
 use mathlib.Core.List.{[], _∷_}
-use Prim.Native.Nat.{ℕ, _+_, _/_, _≤_, _<_}
+use Prim.Native.Nat.{_+_, _/_}
 use native.Mathlib.Omega.{arith}
 use Rattle.words.proofs.Lent.{words-many, words-most}
 use Rattle.lanes.proofs.Listed.{no-marks, up-to-all}
 use borrow.Author.Needs.{needs}
 use Rattle.lanes.proofs.sets.sets_to.Statement.{statement}
 use Rattle.lanes.proofs.sets.sets_to.Tie as tie
-use Rattle.lanes.proofs.sets.sets_to.Reads as reads
-use Rattle.lanes.proofs.sets.sets_to.Lts as lts
-use Rattle.lanes.proofs.heads.top_of.Reads as top-of-reads
-use Rattle.lanes.proofs.sets.sets_with.Reads as sets-with-reads
 
 top-of-requires : tie.Need-top-of-requires
 top-of-requires c κs = search needs

@@ -9,11 +9,6 @@ use Rattle.lanes.proofs.Listed.{found-same, wanted-all, wanted-best, ma
 use borrow.Author.Needs.{needs}
 use Rattle.lanes.proofs.sets.sets_with.Statement.{statement}
 use Rattle.lanes.proofs.sets.sets_with.Tie as tie
-use Rattle.lanes.proofs.sets.sets_with.Reads as reads
-use Rattle.lanes.proofs.sets.sets_with.Lts as lts
-use Rattle.lanes.proofs.sets.keep_best_by.Reads as keep-best-by-reads
-use Rattle.lanes.proofs.sets.listed.Reads as listed-reads
-use Rattle.lanes.proofs.sets.mark.Reads as mark-reads
 
 mark-requires : tie.Need-mark-requires
 mark-requires c κs = search needs

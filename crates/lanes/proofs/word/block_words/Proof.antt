@@ -3,9 +3,6 @@ use Rattle.lanes.proofs.Words.{block-made}
 use borrow.Author.Needs.{needs}
 use Rattle.lanes.proofs.word.block_words.Statement.{statement}
 use Rattle.lanes.proofs.word.block_words.Tie as tie
-use Rattle.lanes.proofs.word.block_words.Reads as reads
-use Rattle.lanes.proofs.word.block_words.Lts as lts
-use Rattle.lanes.proofs.word.raise.Reads as raise-reads
 
 mul-raise : tie.Need-mul-raise
 mul-raise c = search needs

@@ -1,15 +1,11 @@
 -- `word::body`: the upper atoms of the body are the same in the whole block. Assumes nothing.
-use mathlib.Core.Path.{_≡_, sym, _∙_}
+use mathlib.Core.Path.{sym, _∙_}
 use borrow.Author.Tests.{not-true, not-false}
 use Rattle.words.specs.Coded.{posSet, negSet}
 use Rattle.lanes.proofs.Bodies.{body-no-pos, body-no-neg, body-low}
 use borrow.Author.Needs.{needs}
 use Rattle.lanes.proofs.word.body.Statement.{statement}
 use Rattle.lanes.proofs.word.body.Tie as tie
-use Rattle.lanes.proofs.word.body.Reads as reads
-use Rattle.lanes.proofs.word.body.Lts as lts
-use Rattle.atoms.proofs.common.Reads as common-reads
-use Rattle.atoms.proofs.part_of.Reads as part-of-reads
 
 cast-part-of : tie.Need-cast-part-of
 cast-part-of c = search needs

@@ -1,6 +1,6 @@
 -- `word::low_bodies` goes through the rows in block 0, whose sets are the numbers of the lanes. Assumes nothing.
 use Prim.Native.Nat.{ℕ, _-_, _<_, _≤_}
-use mathlib.Core.Path.{_≡_, refl, sym, ap, _∙_}
+use mathlib.Core.Path.{_≡_, refl, _∙_}
 use native.Mathlib.Omega.{arith}
 use denote.Ref.{now}
 use lib.ListN.{length, getD, length-set}
@@ -8,11 +8,6 @@ use Rattle.lanes.specs.Lanes.{Block, LowBody}
 use Rattle.lanes.proofs.Bodies.{low-made, low-more}
 use Rattle.lanes.proofs.word.low_bodies.Statement.{statement}
 use Rattle.lanes.proofs.word.low_bodies.Tie as tie
-use Rattle.lanes.proofs.word.low_bodies.Reads as reads
-use Rattle.lanes.proofs.word.low_bodies.Lts as lts
-use Rattle.lanes.proofs.word.all_in.Reads as all-in-reads
-use Rattle.lanes.proofs.word.block_words.Reads as block-words-reads
-use Rattle.lanes.proofs.word.none_in.Reads as none-in-reads
 
 abbrev Inv-loop : tie.InvT-loop
 Inv-loop rows w lows₀ n₀ lows n = (n ≤ length rows) × (length rows ≤ 32) × (length lows ≡ 32) × Block 0 w × ((i : ℕ) → i < n → LowBody (getD rows i 0) (getD lows i 0))

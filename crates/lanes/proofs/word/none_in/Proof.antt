@@ -3,7 +3,6 @@ use Prim.Native.Nat.{ℕ, _<_}
 use mathlib.Core.Path.{_≡_, refl, sym, _∙_}
 use mathlib.Core.Bool.{_&&_}
 use native.Mathlib.Omega.{arith}
-use denote.Ref.{now}
 use Rattle.atoms.specs.Atoms.{has}
 use Rattle.lpod.specs.Satisfied.{noneIn}
 use Rattle.words.specs.Coded.{atomsIn}
@@ -11,10 +10,6 @@ use Rattle.lanes.specs.Lanes.{column}
 use Rattle.lanes.proofs.Bodies.{lowest-small, rest-less, none-turn, none-end}
 use Rattle.lanes.proofs.word.none_in.Statement.{statement}
 use Rattle.lanes.proofs.word.none_in.Tie as tie
-use Rattle.lanes.proofs.word.none_in.Reads as reads
-use Rattle.lanes.proofs.word.none_in.Lts as lts
-use Rattle.atoms.proofs.lowest.Reads as lowest-reads
-use Rattle.lanes.proofs.word.at.Reads as at-reads
 
 abbrev Inv-loop : tie.InvT-loop
 Inv-loop none w x y₀ rest₀ y rest = (rest < 65536) × ((j : ℕ) → j < 64 → (has x j && noneIn (atomsIn none) (column w j)) ≡ (has y j && noneIn (atomsIn rest) (column w j)))

@@ -8,9 +8,6 @@ use Rattle.atoms.specs.Atoms.{has}
 use Rattle.lanes.proofs.Bodies.{lowest-small, rest-less, raise-turn, raise-end}
 use Rattle.lanes.proofs.word.raise.Statement.{statement}
 use Rattle.lanes.proofs.word.raise.Tie as tie
-use Rattle.lanes.proofs.word.raise.Reads as reads
-use Rattle.lanes.proofs.word.raise.Lts as lts
-use Rattle.atoms.proofs.lowest.Reads as lowest-reads
 
 abbrev Inv-loop : tie.InvT-loop
 Inv-loop raised w₀ rest₀ w rest = (rest < 65536) × (length w ≡ 16) × ((a j : ℕ) → a < 16 → j < 64 → (has raised a || has (getD w₀ a 0) j) ≡ (has rest a || has (getD w a 0) j))
