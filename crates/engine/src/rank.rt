@@ -1,4 +1,4 @@
-// Which of two sets is preferred. This is the one place where sets are ranked: whoever compares, looks for the best or picks asks here.
+// Which of two sets is preferred: what a comparison asks. The searches for best sets rank 64 sets at once, in lanes, by the same relation.
 // It takes the rows in words, so that nothing of the page is read for a pair of sets. Any words, flag word and sets will do.
 ghost use mathlib.Core.Path.{_≡_};
 ghost use Rattle.words.specs.Coded.{rulesIn};
