@@ -451,16 +451,23 @@ static void ask_in_rooms(const char *call, List list, const uint16_t *sets, size
     ask_list(call, list, sets, more, want(&solved, more));
 }
 
+/* What is too dear for plain C is asked of the engine all the same. The generator is then put back, so that both are asked
+   about the same pages afterwards. */
 static void ask_lists(void) {
     long visits = span() * (solved.rules + 1), bests = visits + climb(1, TOO_DEAR);
     ask_in_rooms("list", pipeotter_list, solved.set, (size_t)solved.sets, second_list, visits > DEAR);
-    if (bests > TOO_DEAR) bests_left_out++;
+    int dear_best = bests > TOO_DEAR, dear_pick = dear_best && climb(0, TOO_DEAR) > TOO_DEAR;
+    Random before = rng;
+    if (ONE_BY_ONE && dear_best) bests_left_out++;
     else ask_in_rooms("best", pipeotter_best, solved.best, (size_t)solved.bests, second_best, bests > DEAR);
-    if (bests > TOO_DEAR && climb(0, TOO_DEAR) > TOO_DEAR) picks_left_out++;
+    if (dear_best) rng = before;
+    before = rng;
+    if (ONE_BY_ONE && dear_pick) picks_left_out++;
     else {
         ask_pick();
         ask_displays(bests > DEAR ? 1 : 4);
     }
+    if (dear_pick) rng = before;
 }
 
 /* A refused page or flag word: every call is asked, with rooms that would and would not do. */
@@ -480,8 +487,10 @@ static void ask_refused(void) {
     ask_displays(2);
 }
 
+/* The entries are spoilt first, so that those of the call before do not pass for this one's. */
 static int limit_differs(List list, const uint16_t *sets, int count) {
     static uint16_t found[65536];
+    for (int i = 0; i < count; i++) found[i] = (uint16_t)~sets[i];
     return list(page.copy, page.length, page.flags, found, 65536) != (uint32_t)count || memcmp(found, sets, (size_t)count * sizeof *sets) != 0;
 }
 
@@ -516,7 +525,7 @@ static void ask_all(uint16_t flags) {
 }
 
 static void ask_dense(uint16_t flags) {
-    solve(flags);
+    if (!solve(flags) && disagrees("none")) printf("\n  a dense page is refused\n");
     ask_in_rooms("list", pipeotter_list, solved.set, (size_t)solved.sets, second_list, 1);
     if (ONE_BY_ONE && (long)solved.sets * solved.sets * solved.rules > 40 * DEAR) { /* each set against each */
         bests_left_out++;

@@ -20,6 +20,6 @@ int one_in(Random *random, uint32_t chances);
 enum { HAND_MADE = 18 };
 void hand_made_page(Page *page, int which); /* which: 0 up to HAND_MADE - 1 */
 void generated_page(Page *page, Random *random);
-void dense_page(Page *page, Random *random); /* hundreds or thousands of answer sets */
+void dense_page(Page *page, Random *random); /* up to thousands of answer sets */
 void damage(Page *page, Random *random);
 #endif
