@@ -1,12 +1,12 @@
 -- The best of the marked sets, with a champion: what it beats loses its mark. What is kept on the way is that no set gains a mark and no best set
 -- loses it; and that between the place where the search began and the set in hand nothing is marked any more. Assumes nothing.
 use mathlib.Core.Path.{_≡_, refl, sym, _∙_, subst}
-use mathlib.Core.Bool.{Bool}
+use mathlib.Core.Bool.{Bool, _&&_, not}
 use mathlib.Core.List.{List}
 use Prim.Native.Nat.{ℕ, _+_, _≤_, _<_}
 use native.Mathlib.Decide.{ℕ-discrete, decLt}
 use native.Mathlib.Omega.{arith}
-use lib.Dec.{T}
+use lib.Dec.{T, eqb, eqb→eq, eqb-refl, T-not, not-T}
 use lib.ListN.{length}
 use Rattle.atoms.proofs.Truth.{and-l, and-r, both, same-yes}
 use Rattle.lanes.specs.Seek.{nextFrom}
@@ -81,15 +81,39 @@ module _ (rows marks after : List ℕ) (c i : ℕ) (f : Cleared rows c i 65536 m
     best = λ s t. f s .1 (best-passes (over rows) (marked marks) s t) (λ a k o. best-unbeaten (over rows) (marked marks) s c l u o t);
   }
 
-  -- s was one of them, and s′ is the next that is left
-  pub cleared-on : (m s s′ : ℕ) → i ≤ s → s < 65536 → T (over rows c s) → s′ ≡ nextFrom (marked after) (s + 1) → NoneBetween (marked marks) m s
-      → NoneBetween (marked after) m s′
-  cleared-on m s s′ l h o e n x a k t = go (ℕ-discrete x s) (decLt x s)
-    where
-      go : Dec (x ≡ s) → Dec (x < s) → ⊥
-      go (yes z) d = f x .0 t .1 (omega arith) (omega arith) (subst (λ (y : ℕ). T (over rows c y)) (sym z) o)
-      go (no z) (yes d) = n x a d (f x .0 t .0)
-      go (no z) (no d) = next-miss (marked after) (s + 1) x (omega arith) (subst (λ (y : ℕ). x < y) e k) t
+  pub cleared-own : (s : ℕ) → i ≤ s → s < 65536 → T (over rows c s) → T (marked after s) → ⊥
+  cleared-own s l h o t = f s .0 t .1 l h o
+
+-- ---- only s has lost its mark, and n is preferred to it
+module _ (rows marks after : List ℕ) (s : ℕ) (f : (x : ℕ) → marked after x ≡ (marked marks x && not (eqb x s))) where
+  fewer : (x : ℕ) → T (marked after x) → T (marked marks x)
+  fewer x t = and-l (marked marks x) (not (eqb x s)) (subst T (f x) t)
+
+  pub dropped-left : length after ≡ length marks → (n : ℕ) → n < 65536 → T (marked marks n) → T (over rows n s) → Left rows marks after
+  dropped-left e n l u o = record {
+    same = e;
+    less = fewer;
+    best = λ x t. subst T (sym (f x)) (both (marked marks x) (not (eqb x s)) (best-passes (over rows) (marked marks) x t)
+        (not-T (eqb x s) (λ q. best-unbeaten (over rows) (marked marks) x n l u (subst (λ (y : ℕ). T (over rows n y)) (sym (eqb→eq x s q)) o) t)));
+  }
+
+  pub dropped-own : T (marked after s) → ⊥
+  dropped-own t = T-not (eqb s s) (and-r (marked marks s) (not (eqb s s)) (subst T (f s) t)) (eqb-refl s)
+
+  -- and s was the last that was marked
+  pub dropped-end : (k : ℕ) → k ≡ nextFrom (marked marks) (s + 1) → 65536 ≤ k → s < 65536 → 65536 ≡ nextFrom (marked after) (s + 1)
+  dropped-end k e h l =
+      sym (next-none (marked after) (s + 1) (omega arith) (λ x a b t. next-miss (marked marks) (s + 1) x a (subst (λ (y : ℕ). x < y) e (omega arith)) (fewer x t)))
+
+-- s has lost its mark, and s′ is the next that is left
+pub passed-on : (rows marks after : List ℕ) → Left rows marks after → (m s s′ : ℕ) → (T (marked after s) → ⊥) → s′ ≡ nextFrom (marked after) (s + 1) → NoneBetween (marked marks) m s
+    → NoneBetween (marked after) m s′
+passed-on rows marks after h m s s′ o e n x a k t = go (ℕ-discrete x s) (decLt x s)
+  where
+    go : Dec (x ≡ s) → Dec (x < s) → ⊥
+    go (yes z) d = o (subst (λ (y : ℕ). T (marked after y)) z t)
+    go (no z) (yes d) = n x a d (h .less x t)
+    go (no z) (no d) = next-miss (marked after) (s + 1) x (omega arith) (subst (λ (y : ℕ). x < y) e k) t
 
 -- ---- one best set after the other: below m only best sets are marked, and s is the next best one
 module _ (rows before marks after : List ℕ) (h : Left rows before marks) (g : Left rows marks after) (m s : ℕ) (e : s ≡ nextFrom (soughtBest (over rows) marks) m)

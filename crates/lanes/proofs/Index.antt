@@ -1,18 +1,21 @@
--- The index of the marked sets: made block by block, used to pass over a block, and kept where marks are lost. Assumes nothing.
-use mathlib.Core.Path.{_≡_, sym, ap, _∙_, subst}
-use mathlib.Core.Bool.{Bool, _&&_}
+-- The index of the marked sets: made block by block, used to pass over a block, and kept where marks are lost; and the lanes of a block in which sets
+-- are compared with one of them. Assumes nothing.
+use mathlib.Core.Path.{_≡_, refl, sym, ap, _∙_, subst}
+use mathlib.Core.Bool.{Bool, true, false, _&&_, not, and-true}
 use mathlib.Core.List.{List}
-use Prim.Native.Nat.{ℕ, _+_, _*_, _/_, _≤_, _<_}
-use native.Mathlib.Nat.{lt-of-not-le}
+use Prim.Native.Nat.{ℕ, _+_, _-_, _*_, _/_, _%_, _^_, _≤_, _<_}
+use native.Mathlib.Nat.{lt-of-not-le, one-mul}
 use native.Mathlib.Decide.{ℕ-discrete, decLt}
 use native.Mathlib.Omega.{arith}
 use lib.Bits.{bitAnd}
-use lib.Dec.{T, eqb→eq}
+use lib.Dec.{T, eqb, eqb→eq}
 use lib.ListN.{length, getD, set}
+use lib.Pow.{shl-exact}
 use lib.Seq.{getD-set-same, getD-set-other}
+use borrow.Author.Tests.{eq-eqb, ne-eqb}
 use Rattle.atoms.specs.Atoms.{has, inside}
-use Rattle.atoms.proofs.Truth.{and-l, and-r, no-false, false-no}
-use Rattle.atoms.proofs.Bits.{has-zero}
+use Rattle.atoms.proofs.Truth.{and-l, and-r, no-false, true-yes, false-no, same-yes}
+use Rattle.atoms.proofs.Bits.{has-and, has-zero, has-single}
 use Rattle.lpod.specs.Degree.{degree}
 use Rattle.words.specs.Coded.{ruleIn}
 use Rattle.lanes.specs.Lanes.{Says}
@@ -20,6 +23,8 @@ use Rattle.lanes.specs.Marks.{marked, Within}
 use Rattle.lanes.specs.Rank.{over, Grades}
 use Rattle.lanes.specs.Left.{Firsts, Index, Searched, rival}
 use Rattle.lanes.proofs.Marked.{marked-at, marked-past, none-before, none-to, within-fewer}
+use Rattle.lanes.proofs.Words.{full, has-complement, has-not}
+use Rattle.lanes.proofs.RankedRows.{over-irreflexive}
 use Rattle.lanes.proofs.FirstRows.{FirstsTo, skip, none-over}
 
 -- ---- made block by block: it is right below block d
@@ -49,6 +54,13 @@ module _ (rows index marks : List ℕ) (low high : ℕ) (w : Within marks low hi
 pub index-all : (rows index marks : List ℕ) (d : ℕ) → length marks ≤ d → IndexTo rows index marks d → Index rows index marks
 index-all rows index marks d h f b n j l = f b n j (omega arith)
 
+-- one block only: all ones
+pub index-full : (rows index marks : List ℕ) → length rows ≤ 32 → length marks ≡ 1 → 0 < length index → Index rows (set index 0 4294967295) marks
+index-full rows index marks h e l b n j lb ln lj t d =
+    let z : b ≡ 0 = omega arith in
+    true-yes (ap (λ (i : ℕ). has (getD (set index 0 4294967295) i 0) n) z ∙ ap (λ (x : ℕ). has x n) (getD-set-same index 0 4294967295 0 l)
+    ∙ has-complement 32 0 n (omega arith) (omega arith) ∙ ap not (has-zero n))
+
 -- ---- marks that are lost change nothing
 pub index-fewer : (rows index marks fewer : List ℕ) → length fewer ≡ length marks → ((s : ℕ) → T (marked fewer s) → T (marked marks s)) → Index rows index marks → Index rows index fewer
 index-fewer rows index marks fewer q f g b n j l m k t e =
@@ -67,7 +79,7 @@ searched-left rows index marks fewer low high q f h = record {
 
 -- ---- the lanes of a block that are marked and preferred to M
 module _ (rows marks : List ℕ) (b M : ℕ) where
-  pub rival-says : (x : ℕ) → ((j : ℕ) → j < 64 → has x j ≡ (has (getD marks b 0) j && over rows (64 * b + j) M)) → Says b x (rival rows marks M)
+  rival-says : (x : ℕ) → ((j : ℕ) → j < 64 → has x j ≡ (has (getD marks b 0) j && over rows (64 * b + j) M)) → Says b x (rival rows marks M)
   rival-says x f j l = f j l ∙ ap (λ (a : Bool). a && over rows (64 * b + j) M) (sym (marked-at marks b j l))
 
   none-says : ((j : ℕ) → j < 64 → T (has (getD marks b 0) j) → T (over rows (64 * b + j) M) → ⊥) → Says b 0 (rival rows marks M)
@@ -85,6 +97,60 @@ module _ (rows marks : List ℕ) (b M : ℕ) where
   none-first grades index first g f i l n =
       none-says (λ j k t o.
       false-no (skip rows grades M g first f b (getD marks b 0) (getD index b 0) (λ m j h. i b m j l h) (λ u. n (eqb→eq (bitAnd first (getD index b 0)) first u)) j k t) o)
+
+-- ---- all lanes of a block but m's own
+module _ (among b m j : ℕ) (l : j < 64) where
+  -- m stands in another block, or in this one
+  pub others-all : (m / 64 ≡ b → ⊥) → has among j ≡ (has among j && not (eqb (64 * b + j) m))
+  others-all n = sym (ap (λ (c : Bool). has among j && not c) (ne-eqb (64 * b + j) m (λ e. n (omega arith))) ∙ and-true (has among j))
+
+  pub others-but : m / 64 ≡ b → has (bitAnd among (full - 1 * 2 ^ (m % 64) % 18446744073709551616)) j ≡ (has among j && not (eqb (64 * b + j) m))
+  others-but e =
+      has-and among (full - 1 * 2 ^ (m % 64) % 18446744073709551616) j
+      ∙ ap (λ (c : Bool). has among j && c)
+      (has-not (1 * 2 ^ (m % 64) % 18446744073709551616) j (omega arith) l
+      ∙ ap (λ (x : ℕ). not (has x j)) (shl-exact 1 (m % 64) 64 (omega arith) (omega arith) ∙ one-mul (2 ^ (m % 64)))
+      ∙ ap not (has-single (m % 64) j ∙ same-yes (eqb j (m % 64)) (eqb (64 * b + j) m)
+      (λ t. let q = eqb→eq j (m % 64) t in true-yes (eq-eqb (64 * b + j) m (omega arith)))
+      (λ t. let q = eqb→eq (64 * b + j) m t in true-yes (eq-eqb j (m % 64) (omega arith)))))
+
+  -- no set is preferred to itself: so its own lane may be left out
+  module _ (rows : List ℕ) (rest : ℕ) (e : has rest j ≡ (has among j && not (eqb (64 * b + j) m))) where
+    same-but : (o : Bool) → (64 * b + j ≡ m → T o → ⊥) → (has rest j && o) ≡ (has among j && o)
+    same-but o n = ap (λ (c : Bool). c && o) e ∙ go (has among j) (eqb (64 * b + j) m) refl
+      where
+        go : (a d : Bool) → eqb (64 * b + j) m ≡ d → ((a && not d) && o) ≡ (a && o)
+        go false d q = refl
+        go true true q = sym (no-false o (n (eqb→eq (64 * b + j) m (true-yes q))))
+        go true false q = refl
+
+    pub others-over : (has rest j && over rows (64 * b + j) m) ≡ (has among j && over rows (64 * b + j) m)
+    others-over = same-but (over rows (64 * b + j) m) (λ q t. over-irreflexive rows m (subst (λ (s : ℕ). T (over rows s m)) q t))
+
+    pub others-under : (has rest j && over rows m (64 * b + j)) ≡ (has among j && over rows m (64 * b + j))
+    others-under = same-but (over rows m (64 * b + j)) (λ q t. over-irreflexive rows m (subst (λ (s : ℕ). T (over rows m s)) q t))
+
+module _ (rows marks : List ℕ) (b m rest : ℕ) (e : (j : ℕ) → j < 64 → has rest j ≡ (has (getD marks b 0) j && not (eqb (64 * b + j) m))) where
+  pub some-others : (x : ℕ) → ((j : ℕ) → j < 64 → has x j ≡ (has rest j && over rows (64 * b + j) m)) → Says b x (rival rows marks m)
+  some-others x f = rival-says rows marks b m x (λ j l. f j l ∙ others-over (getD marks b 0) b m j l rows rest (e j l))
+
+  pub none-others : rest ≡ 0 → Says b 0 (rival rows marks m)
+  none-others z = some-others 0 (λ j l. has-zero j ∙ sym (ap (λ (c : Bool). c && over rows (64 * b + j) m) (ap (λ (y : ℕ). has y j) z ∙ has-zero j)))
+
+-- w is the word of s's block without s
+pub unmarked : (marks : List ℕ) (s w : ℕ) → s / 64 < length marks → ((j : ℕ) → j < 64 → has w j ≡ (has (getD marks (s / 64) 0) j && not (eqb (64 * (s / 64) + j) s)))
+    → (x : ℕ) → marked (set marks (s / 64) w) x ≡ (marked marks x && not (eqb x s))
+unfolding marked
+unmarked marks s w l f x = go (ℕ-discrete (x / 64) (s / 64))
+  where
+    go : Dec (x / 64 ≡ s / 64) → has (getD (set marks (s / 64) w) (x / 64) 0) (x % 64) ≡ (has (getD marks (x / 64) 0) (x % 64) && not (eqb x s))
+    go (yes e) =
+        let z : 64 * (s / 64) + x % 64 ≡ x = omega arith in
+        ap (λ (c : ℕ). has (getD (set marks (s / 64) w) c 0) (x % 64)) e ∙ ap (λ (v : ℕ). has v (x % 64)) (getD-set-same marks (s / 64) w 0 l) ∙ f (x % 64) (omega arith)
+        ∙ ap (λ (c : ℕ). has (getD marks c 0) (x % 64) && not (eqb (64 * (s / 64) + x % 64) s)) (sym e) ∙ ap (λ (c : ℕ). has (getD marks (x / 64) 0) (x % 64) && not (eqb c s)) z
+    go (no e) =
+        ap (λ (v : ℕ). has v (x % 64)) (getD-set-other marks (s / 64) (x / 64) w 0 e)
+        ∙ sym (ap (λ (c : Bool). has (getD marks (x / 64) 0) (x % 64) && not c) (ne-eqb x s (λ q. e (ap (λ (y : ℕ). y / 64) q))) ∙ and-true (has (getD marks (x / 64) 0) (x % 64)))
 
 -- every row has degree 1 in M
 pub no-rival : (rows grades marks : List ℕ) (M first : ℕ) → Grades rows grades M → Firsts rows grades first → ((n : ℕ) → n < length rows → T (has first n))

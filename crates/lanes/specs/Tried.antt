@@ -10,6 +10,6 @@ use Rattle.words.specs.Coded.{atomsOf}
 unfoldable pub topOf : List Rule → ℕ → ℕ
 topOf P flags = union flags (atomsOf (headAtoms P))
 
--- s lies between the flags and top, and passes: it is an answer set
+-- s lies between the flags and top, and passes a test
 unfoldable pub tried : (ℕ → Bool) → ℕ → ℕ → ℕ → Bool
 tried passes flags top s = inside flags s && (inside s top && passes s)

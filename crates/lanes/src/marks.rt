@@ -1,5 +1,5 @@
-// Searches through the marked sets, block by block: only blocks between low and high have marks, and a word with no bit is passed over at once.
-// Each search answers the least set that is marked, and 65,536, which is no set, where there is none. No more than 1,024 words are lent.
+// The marked sets, block by block: only blocks between low and high have marks, and a word with no bit is passed over at once. A search among them
+// answers the least set that it looks for, and 65,536, which is no set, where there is none. No more than 1,024 words are lent.
 ghost use mathlib.Core.Path.{_≡_};
 ghost use Prim.Native.Nat.{_+_, _*_, _/_, _≤_, _<_};
 ghost use lib.Dec.{T};
@@ -80,7 +80,7 @@ fn store_run(out: &mut [u16], k: usize, i: u32, many: u32)
 
 // Stores the marked sets of block b from place k on, run by run; the place after them. What is left of the word is kept shifted down: its lowest
 // bit is the set s.
-fn store_block(marks: &[u64], b: u16, out: &mut [u16], k: usize) -> usize
+fn store_runs(marks: &[u64], b: u16, out: &mut [u16], k: usize) -> usize
     requires { ⌜ (b < 1024) × (b < length (now marks)) × (k + length (keep (marked (now marks)) (numbers (64 * b) 64)) ≤ 65536) × (k + length (keep (marked (now marks)) (numbers (64 * b) 64)) ≤ length (now out)) ⌝ }
     ensures { λ r. ⌜ (now (out .exit) ≡ sets (now (out .entry)) k (keep (marked (now (marks .entry))) (numbers (64 * b) 64))) × (r ≡ k + length (keep (marked (now (marks .entry))) (numbers (64 * b) 64))) ⌝ }
 {
@@ -98,6 +98,38 @@ fn store_block(marks: &[u64], b: u16, out: &mut [u16], k: usize) -> usize
         x = (y >> (many - 1)) >> 1;
     }
     at
+}
+
+// The same set by set.
+fn store_each(marks: &[u64], b: u16, out: &mut [u16], k: usize) -> usize
+    requires { ⌜ (b < 1024) × (b < length (now marks)) × (k + length (keep (marked (now marks)) (numbers (64 * b) 64)) ≤ 65536) × (k + length (keep (marked (now marks)) (numbers (64 * b) 64)) ≤ length (now out)) ⌝ }
+    ensures { λ r. ⌜ (now (out .exit) ≡ sets (now (out .entry)) k (keep (marked (now (marks .entry))) (numbers (64 * b) 64))) × (r ≡ k + length (keep (marked (now (marks .entry))) (numbers (64 * b) 64))) ⌝ }
+{
+    let mut x = marks[b as usize];
+    let mut s = 64 * (b as u32);
+    let mut at = k;
+    while x != 0 {
+        let gap = u64::trailing_zeros(x);
+        s += gap;
+        out[at] = s as u16;
+        at += 1;
+        s += 1;
+        x = (x >> gap) >> 1;
+    }
+    at
+}
+
+// The same in the way that has less work: a run of four or more is worth wide stores.
+fn store_block(marks: &[u64], b: u16, out: &mut [u16], k: usize) -> usize
+    requires { ⌜ (b < 1024) × (b < length (now marks)) × (k + length (keep (marked (now marks)) (numbers (64 * b) 64)) ≤ 65536) × (k + length (keep (marked (now marks)) (numbers (64 * b) 64)) ≤ length (now out)) ⌝ }
+    ensures { λ r. ⌜ (now (out .exit) ≡ sets (now (out .entry)) k (keep (marked (now (marks .entry))) (numbers (64 * b) 64))) × (r ≡ k + length (keep (marked (now (marks .entry))) (numbers (64 * b) 64))) ⌝ }
+{
+    let x = marks[b as usize];
+    let y = x & (x >> 1);
+    if y & (y >> 2) == 0 {
+        return store_each(marks, b, &mut *out, k);
+    }
+    store_runs(marks, b, &mut *out, k)
 }
 
 // Stores the marked sets, rising, at the start of a slice that has room for all.

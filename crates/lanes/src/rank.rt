@@ -144,6 +144,7 @@ pub fn better(rows: &[u64], lows: &[u64], grades: &[u8], deepest: u8, b: u16, am
     ensures { λ r. ⌜ ((M : ℕ) → Grades (now (rows .entry)) (now (grades .entry)) M → (j : ℕ) → j < 64 → has r j ≡ (has among j && over (now (rows .entry)) (64 * b + j) M)) ⌝ }
 {
     let w = word::block_words(b);
+    // A word may say that its head has 255 atoms: the count of degrees goes one further.
     let last = deepest as u16;
     let mut won: u64 = 0;
     let mut same = among;
@@ -168,6 +169,7 @@ pub fn worse(rows: &[u64], lows: &[u64], grades: &[u8], deepest: u8, b: u16, amo
     ensures { λ r. ⌜ ((M : ℕ) → Grades (now (rows .entry)) (now (grades .entry)) M → (j : ℕ) → j < 64 → has r j ≡ (has among j && over (now (rows .entry)) M (64 * b + j))) ⌝ }
 {
     let w = word::block_words(b);
+    // A word may say that its head has 255 atoms: the count of degrees goes one further.
     let last = deepest as u16;
     let mut lost: u64 = 0;
     let mut same = among;

@@ -1,10 +1,11 @@
 // The best of the marked sets, found in place. A set to which another is preferred loses its mark at once, for whatever it beats is beaten by a best
-// set too: so the marks get fewer while they are searched. A set that is not best leads up to a champion, and of the sets from there on those
-// that the champion beats are cleared block by block. Where a row has degree 1 in the set in hand and in no marked set of a block, none of that
-// block is preferred to it: an index of such rows spares most looks at a block.
+// set too: so the marks get fewer while they are searched. A set that is not best leads up to a champion, and what the champion beats is cleared,
+// from the block of the set in hand on. Where a row has degree 1 in the set in hand and in no marked set of a block, none of that block is
+// preferred to it: an index of such rows spares most looks at a block.
 ghost use mathlib.Core.Path.{_≡_};
+ghost use mathlib.Core.Bool.{_&&_, not};
 ghost use Prim.Native.Nat.{ℕ, _+_, _*_, _/_, _≤_, _<_};
-ghost use lib.Dec.{T};
+ghost use lib.Dec.{T, eqb};
 ghost use lib.ListN.{length};
 ghost use Rattle.atoms.specs.Atoms.{has, inside};
 ghost use Rattle.lanes.specs.Lanes.{Says, LowBodies};
@@ -17,11 +18,15 @@ use crate::blocks;
 use crate::marks;
 use crate::rank;
 
-// The index of the marked sets: a word for each block between low and high.
+// The index of the marked sets: a word for each block between low and high. Where there is one block only it spares nothing, and all ones will do.
 pub fn indexes(rows: &[u64], lows: &[u64], marks: &[u64], low: u16, high: u16, index: &mut [u32])
     requires { ⌜ (length (now rows) ≤ 32) × (length (now rows) ≤ length (now lows)) × LowBodies (now rows) (now lows) × (length (now marks) ≤ 1024) × (length (now marks) ≤ length (now index)) × T (inside low high) × Within (now marks) low high ⌝ }
     ensures { λ r. ⌜ Index (now (rows .entry)) (now (index .exit)) (now (marks .entry)) × (length (now (index .exit)) ≡ length (now (index .entry))) ⌝ }
 {
+    if marks.len() == 1 {
+        index[0] = 0xFFFF_FFFF;
+        return;
+    }
     let mut b = low;
     while (b as usize) < marks.len() {
         index[b as usize] = rank::firsts(rows, lows, b, marks[b as usize]);
@@ -29,7 +34,17 @@ pub fn indexes(rows: &[u64], lows: &[u64], marks: &[u64], low: u16, high: u16, i
     }
 }
 
-// The lanes of block b that are marked and preferred to the set that is graded, whose rows of degree 1 are `first`.
+// The lanes of `among`, in block b, but m's own. No set is preferred to itself, and with no equal lane left a ranking ends early.
+fn others(among: u64, b: u16, m: u16) -> u64
+    ensures { λ r. ⌜ ((j : ℕ) → j < 64 → has r j ≡ (has among j && not (eqb (64 * b + j) m))) ⌝ }
+{
+    if m / 64 != b {
+        return among;
+    }
+    among & !(1u64 << (m % 64))
+}
+
+// The lanes of block b that are marked and preferred to m, the set that is graded, whose rows of degree 1 are `first`.
 fn better_in(
     rows: &[u64],
     lows: &[u64],
@@ -38,10 +53,11 @@ fn better_in(
     index: &[u32],
     grades: &[u8],
     first: u32,
+    m: u16,
     b: u16,
 ) -> u64
-    requires { ⌜ Ready (now rows) (now lows) deepest × (length (now rows) ≤ length (now grades)) × Firsts (now rows) (now grades) first × (b < 1024) × (b < length (now marks)) × (b < length (now index)) × Index (now rows) (now index) (now marks) ⌝ }
-    ensures { λ r. ⌜ ((M : ℕ) → Grades (now (rows .entry)) (now (grades .entry)) M → Says b r (rival (now (rows .entry)) (now (marks .entry)) M)) ⌝ }
+    requires { ⌜ Ready (now rows) (now lows) deepest × (length (now rows) ≤ length (now grades)) × Grades (now rows) (now grades) m × Firsts (now rows) (now grades) first × (b < 1024) × (b < length (now marks)) × (b < length (now index)) × Index (now rows) (now index) (now marks) ⌝ }
+    ensures { λ r. ⌜ Says b r (rival (now (rows .entry)) (now (marks .entry)) m) ⌝ }
 {
     let among = marks[b as usize];
     if among == 0 {
@@ -50,10 +66,14 @@ fn better_in(
     if first & index[b as usize] != first {
         return 0;
     }
-    rank::better(rows, lows, grades, deepest, b, among)
+    let rest = others(among, b, m);
+    if rest == 0 {
+        return 0;
+    }
+    rank::better(rows, lows, grades, deepest, b, rest)
 }
 
-// The least marked set from block b on that is preferred to the set that is graded; 65,536, which is no set, where there is none.
+// The least marked set from block b on that is preferred to m, the set that is graded; 65,536, which is no set, where there is none.
 fn better_from(
     rows: &[u64],
     lows: &[u64],
@@ -64,14 +84,15 @@ fn better_from(
     index: &[u32],
     grades: &[u8],
     first: u32,
+    m: u16,
     b: u16,
 ) -> u32
-    requires { ⌜ Ready (now rows) (now lows) deepest × (length (now rows) ≤ length (now grades)) × Firsts (now rows) (now grades) first × Searched (now rows) (now marks) (now index) low high × (b ≤ 1024) × (b < 1024 → T (inside low b) × T (inside b high)) ⌝ }
-    ensures { λ r. ⌜ ((M : ℕ) → Grades (now (rows .entry)) (now (grades .entry)) M → r ≡ nextFrom (rival (now (rows .entry)) (now (marks .entry)) M) (64 * b)) ⌝ }
+    requires { ⌜ Ready (now rows) (now lows) deepest × (length (now rows) ≤ length (now grades)) × Grades (now rows) (now grades) m × Firsts (now rows) (now grades) first × Searched (now rows) (now marks) (now index) low high × (b ≤ 1024) × (b < 1024 → T (inside low b) × T (inside b high)) ⌝ }
+    ensures { λ r. ⌜ r ≡ nextFrom (rival (now (rows .entry)) (now (marks .entry)) m) (64 * b) ⌝ }
 {
     let mut c = b;
     while (c as usize) < marks.len() {
-        let x = better_in(rows, lows, deepest, marks, index, grades, first, c);
+        let x = better_in(rows, lows, deepest, marks, index, grades, first, m, c);
         if x != 0 {
             return 64 * (c as u32) + u64::trailing_zeros(x);
         }
@@ -93,11 +114,11 @@ fn better_after(
     first: u32,
     m: u16,
 ) -> u32
-    requires { ⌜ Ready (now rows) (now lows) deepest × (length (now rows) ≤ length (now grades)) × Firsts (now rows) (now grades) first × Searched (now rows) (now marks) (now index) low high × (m / 64 < length (now marks)) × T (inside low (m / 64)) × T (inside (m / 64) high) ⌝ }
-    ensures { λ r. ⌜ ((M : ℕ) → Grades (now (rows .entry)) (now (grades .entry)) M → r ≡ nextFrom (rival (now (rows .entry)) (now (marks .entry)) M) (m + 1)) ⌝ }
+    requires { ⌜ Ready (now rows) (now lows) deepest × (length (now rows) ≤ length (now grades)) × Grades (now rows) (now grades) m × Firsts (now rows) (now grades) first × Searched (now rows) (now marks) (now index) low high × (m / 64 < length (now marks)) × T (inside low (m / 64)) × T (inside (m / 64) high) ⌝ }
+    ensures { λ r. ⌜ r ≡ nextFrom (rival (now (rows .entry)) (now (marks .entry)) m) (m + 1) ⌝ }
 {
     let b = m / 64;
-    let x = (better_in(rows, lows, deepest, marks, index, grades, first, b) >> (m % 64)) >> 1;
+    let x = (better_in(rows, lows, deepest, marks, index, grades, first, m, b) >> (m % 64)) >> 1;
     if x != 0 {
         return m as u32 + 1 + u64::trailing_zeros(x);
     }
@@ -111,6 +132,7 @@ fn better_after(
         index,
         grades,
         first,
+        m,
         blocks::next_block(b, low, high),
     )
 }
@@ -153,6 +175,7 @@ fn first_rival(
         index,
         &*grades,
         first,
+        m,
         low,
     )
 }
@@ -235,7 +258,40 @@ fn champion(
     c
 }
 
-// From block b on, the sets to which the graded one is preferred lose their marks.
+// A champion over s, to which n is preferred. Of the sets below s only best ones are left: from one of these there is no way up.
+fn leader(
+    rows: &[u64],
+    lows: &[u64],
+    deepest: u8,
+    marks: &[u64],
+    low: u16,
+    high: u16,
+    index: &[u32],
+    grades: &mut [u8],
+    s: u16,
+    n: u16,
+) -> u16
+    requires { ⌜ Ready (now rows) (now lows) deepest × (length (now rows) ≤ length (now grades)) × Searched (now rows) (now marks) (now index) low high × T (marked (now marks) n) ⌝ }
+    ensures { λ r. ⌜ T (marked (now (marks .entry)) r) × ((M : ℕ) → T (over (now (rows .entry)) n M) → T (over (now (rows .entry)) r M)) × Grades (now (rows .entry)) (now (grades .exit)) r × (length (now (grades .exit)) ≡ length (now (grades .entry))) ⌝ }
+{
+    if n < s {
+        rank::grade(rows, n, &mut *grades);
+        return n;
+    }
+    champion(
+        rows,
+        lows,
+        deepest,
+        marks,
+        low,
+        high,
+        index,
+        &mut *grades,
+        n,
+    )
+}
+
+// From block b on, the sets to which m, the set that is graded, is preferred lose their marks.
 fn clear_worse(
     rows: &[u64],
     lows: &[u64],
@@ -244,19 +300,76 @@ fn clear_worse(
     high: u16,
     grades: &[u8],
     marks: &mut [u64],
+    m: u16,
     b: u16,
 )
-    requires { ⌜ Ready (now rows) (now lows) deepest × (length (now rows) ≤ length (now grades)) × (length (now marks) ≤ 1024) × Within (now marks) low high × (b < 1024) × T (inside low b) × T (inside b high) ⌝ }
-    ensures { λ r. ⌜ (length (now (marks .exit)) ≡ length (now (marks .entry))) × ((M : ℕ) → Grades (now (rows .entry)) (now (grades .entry)) M → Cleared (now (rows .entry)) M (64 * b) 65536 (now (marks .entry)) (now (marks .exit))) ⌝ }
+    requires { ⌜ Ready (now rows) (now lows) deepest × (length (now rows) ≤ length (now grades)) × Grades (now rows) (now grades) m × (length (now marks) ≤ 1024) × Within (now marks) low high × (b < 1024) × T (inside low b) × T (inside b high) ⌝ }
+    ensures { λ r. ⌜ (length (now (marks .exit)) ≡ length (now (marks .entry))) × Cleared (now (rows .entry)) m (64 * b) 65536 (now (marks .entry)) (now (marks .exit)) ⌝ }
 {
     let mut c = b;
     while (c as usize) < marks.len() {
         let x = marks[c as usize];
         if x != 0 {
-            marks[c as usize] = x & !rank::worse(rows, lows, grades, deepest, c, x);
+            marks[c as usize] = x & !rank::worse(rows, lows, grades, deepest, c, others(x, c, m));
         }
         c = blocks::next_block(c, low, high);
     }
+}
+
+// s loses its mark.
+fn unmark(marks: &mut [u64], s: u16)
+    requires { ⌜ s / 64 < length (now marks) ⌝ }
+    ensures { λ r. ⌜ (length (now (marks .exit)) ≡ length (now (marks .entry))) × ((x : ℕ) → marked (now (marks .exit)) x ≡ (marked (now (marks .entry)) x && not (eqb x s))) ⌝ }
+{
+    let b = s / 64;
+    marks[b as usize] = others(marks[b as usize], b, s);
+}
+
+// From s, to which n is preferred, to the next marked set. s loses its mark; where a set after it is marked, all lose theirs that a champion beats.
+fn pass_beaten(
+    rows: &[u64],
+    lows: &[u64],
+    deepest: u8,
+    low: u16,
+    high: u16,
+    index: &[u32],
+    grades: &mut [u8],
+    marks: &mut [u64],
+    s: u16,
+    n: u16,
+) -> u32
+    requires { ⌜ Ready (now rows) (now lows) deepest × (length (now rows) ≤ length (now grades)) × Searched (now rows) (now marks) (now index) low high × T (marked (now marks) s) × T (marked (now marks) n) × T (over (now rows) n s) ⌝ }
+    ensures { λ r. ⌜ (r ≡ nextFrom (marked (now (marks .exit))) (s + 1)) × Left (now (rows .entry)) (now (marks .entry)) (now (marks .exit)) × (T (marked (now (marks .exit)) s) → ⊥) × (length (now (grades .exit)) ≡ length (now (grades .entry))) ⌝ }
+{
+    let k = marks::next_after(&*marks, low, high, s);
+    if 65536 <= k {
+        unmark(&mut *marks, s);
+        return 65536;
+    }
+    let c = leader(
+        rows,
+        lows,
+        deepest,
+        &*marks,
+        low,
+        high,
+        index,
+        &mut *grades,
+        s,
+        n,
+    );
+    clear_worse(
+        rows,
+        lows,
+        deepest,
+        low,
+        high,
+        &*grades,
+        &mut *marks,
+        c,
+        s / 64,
+    );
+    marks::next_after(&*marks, low, high, s)
 }
 
 // From m, a marked set or 65,536, to the least best set from there on. What is passed over on the way loses its mark.
@@ -290,28 +403,18 @@ fn settle(
         if 65536 <= n {
             return s;
         }
-        champion(
+        s = pass_beaten(
             rows,
             lows,
             deepest,
-            &*marks,
             low,
             high,
             index,
             &mut *grades,
+            &mut *marks,
+            s as u16,
             n as u16,
         );
-        clear_worse(
-            rows,
-            lows,
-            deepest,
-            low,
-            high,
-            &*grades,
-            &mut *marks,
-            (s / 64) as u16,
-        );
-        s = marks::next_after(&*marks, low, high, s as u16);
     }
     s
 }

@@ -42,7 +42,7 @@ fn listed(marks: &[u64], low: u16, high: u16, out: &mut [u16]) -> Found
     Found { fits: true, count }
 }
 
-// Of the marked sets only the best keep their marks, by rows that rank.
+// Of the marked sets only the best by these rows keep their marks.
 fn keep_best(rows: &[u64], low: u16, high: u16, index: &mut [u32], marks: &mut [u64])
     requires { ⌜ (length (now rows) ≤ 32) × (length (now marks) ≤ 1024) × (length (now marks) ≤ length (now index)) × (low < length (now marks)) × T (inside low high) × Within (now marks) low high ⌝ }
     ensures { λ r. ⌜ (length (now (marks .exit)) ≡ length (now (marks .entry))) × Within (now (marks .exit)) low high × ((s : ℕ) → s < 65536 → marked (now (marks .exit)) s ≡ soughtBest (over (now (rows .entry))) (now (marks .entry)) s) ⌝ }
@@ -53,7 +53,7 @@ fn keep_best(rows: &[u64], low: u16, high: u16, index: &mut [u32], marks: &mut [
     search::keep_best(rows, &lows, deepest, low, high, &*index, &mut *marks);
 }
 
-// The least best of the marked sets, by rows that rank.
+// The least of the marked sets that are best by these rows.
 fn first_best(rows: &[u64], low: u16, high: u16, index: &mut [u32], marks: &mut [u64]) -> u32
     requires { ⌜ (length (now rows) ≤ 32) × (length (now marks) ≤ 1024) × (length (now marks) ≤ length (now index)) × (low < length (now marks)) × T (inside low high) × Within (now marks) low high ⌝ }
     ensures { λ r. ⌜ r ≡ nextFrom (soughtBest (over (now (rows .entry))) (now (marks .entry))) 0 ⌝ }
@@ -64,7 +64,7 @@ fn first_best(rows: &[u64], low: u16, high: u16, index: &mut [u32], marks: &mut 
     search::first_best(rows, &lows, deepest, low, high, &*index, &mut *marks)
 }
 
-// The same by any rows: those that do not rank are left out.
+// Of the marked sets only the best keep their marks. Rows that do not rank are left out.
 fn keep_best_by(rows: &[u64], low: u16, high: u16, index: &mut [u32], marks: &mut [u64])
     requires { ⌜ (length (now rows) ≤ 32) × (length (now marks) ≤ 1024) × (length (now marks) ≤ length (now index)) × (low < length (now marks)) × T (inside low high) × Within (now marks) low high ⌝ }
     ensures { λ r. ⌜ (length (now (marks .exit)) ≡ length (now (marks .entry))) × Within (now (marks .exit)) low high × ((s : ℕ) → s < 65536 → marked (now (marks .exit)) s ≡ soughtBest (over (keep ranks (now (rows .entry)))) (now (marks .entry)) s) ⌝ }
@@ -75,6 +75,7 @@ fn keep_best_by(rows: &[u64], low: u16, high: u16, index: &mut [u32], marks: &mu
     keep_best(&kept[..n], low, high, &mut *index, &mut *marks);
 }
 
+// The least of the best marked sets. Rows that do not rank are left out.
 fn first_best_by(rows: &[u64], low: u16, high: u16, index: &mut [u32], marks: &mut [u64]) -> u32
     requires { ⌜ (length (now rows) ≤ 32) × (length (now marks) ≤ 1024) × (length (now marks) ≤ length (now index)) × (low < length (now marks)) × T (inside low high) × Within (now marks) low high ⌝ }
     ensures { λ r. ⌜ r ≡ nextFrom (soughtBest (over (keep ranks (now (rows .entry)))) (now (marks .entry))) 0 ⌝ }
@@ -134,7 +135,7 @@ fn pick_with(
     first_best_by(rows, flags / 64, top / 64, &mut *index, &mut *marks)
 }
 
-// The same for at most 32 rows. A small page needs few words: four for eight atoms.
+// The sets of at most 32 rows that are wanted. A small page needs few words: no more than four for eight atoms.
 fn sets_to(rows: &[u64], pairs: &[u16], flags: u16, best: bool, out: &mut [u16]) -> Found
     requires { ⌜ length (now rows) ≤ 32 ⌝ }
     ensures { λ r. ⌜ means.FoundSays (means.wanted best (programIn (now (rows .entry)) (now (pairs .entry)) flags)) (now (out .entry)) r (now (out .exit)) ⌝ }
@@ -169,6 +170,7 @@ fn sets_to(rows: &[u64], pairs: &[u16], flags: u16, best: bool, out: &mut [u16])
     )
 }
 
+// The pick of at most 32 rows.
 fn pick_to(rows: &[u64], pairs: &[u16], flags: u16) -> u32
     requires { ⌜ length (now rows) ≤ 32 ⌝ }
     ensures { λ r. ⌜ r ≡ means.numberOf (bests.pick (programIn (now (rows .entry)) (now (pairs .entry)) flags)) ⌝ }

@@ -89,7 +89,7 @@ pub fn none_in(none: u16, w: &[u64; 16], x: u64) -> u64
     y
 }
 
-// The lanes in which the low part of each row's body holds; 0 after these.
+// The lanes in which the low part of each row's body holds.
 pub fn low_bodies(rows: &[u64]) -> [u64; 32]
     requires { ⌜ length (now rows) ≤ 32 ⌝ }
     ensures { λ r. ⌜ (length r ≡ 32) × means.LowBodies (now (rows .entry)) r ⌝ }

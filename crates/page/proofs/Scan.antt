@@ -6,13 +6,16 @@ use Prim.Native.Nat.{ℕ, zero, suc, _+_, _≤_, _<_}
 use native.Mathlib.Omega.{arith}
 use native.Mathlib.Numerals.{add-one}
 use lib.Dec.{ltb}
+use lib.ListN.{length, List·getD-eq-default}
 use borrow.Author.Tests.{lt-ltb, le-ltb}
 use Rattle.lpod.specs.Lists.{every, numbers}
 use Rattle.lpod.specs.Rule.{Pair}
-use Rattle.page.specs.Fields.{byteAt, headCount, posCount, negCount, literalsOf}
+use Rattle.page.specs.Fields.{byteAt, literalsOf}
 use Rattle.page.specs.Program.{literals, ruleAt, rowsFrom, pairsFrom, literalPlace}
-use Rattle.page.specs.Refusals.{bodiesRise, rises, risesAbove, inOrder, apart, allApart, firsts}
+use Rattle.page.specs.Refusals.{isBelow, bodiesRise, rises, risesAbove, inOrder, apart, allApart, firsts}
+use Rattle.page.specs.Rows.{ruleOf}
 use Rattle.page.specs.Scan.{spaced, pairsHold}
+use Rattle.page.specs.declared.rows.Row.{Row}
 
 -- ---- the first of a run, and the rest of it
 module _ (i n m : ℕ) (e : n ≡ m + 1) where
@@ -64,6 +67,24 @@ module _ {A : Type 0} (p : A → Bool) (l rest : List A) (x : A) (s : l ≡ x �
 pub every-none : {A : Type 0} (p : A → Bool) (l : List A) → l ≡ [] → every p l ≡ true
 unfolding every
 every-none p l e = rw e
+
+-- past the end of the page all literals are 0, and one is below n where all are
+module _ (page : List ℕ) (a : ℕ) where
+  and-same : (b : Bool) → (b && b) ≡ b
+  and-same true = refl
+  and-same false = refl
+
+  and-yes : (b : Bool) → (b && true) ≡ b
+  and-yes true = refl
+  and-yes false = refl
+
+  past-all : (i m : ℕ) → length page ≤ i → every (isBelow a) (literals page i (suc m)) ≡ ltb 0 a
+  unfolding every literals isBelow
+  past-all i zero h = rw (List·getD-eq-default page 0 h) (and-yes (ltb 0 a))
+  past-all i (suc m) h = ap (λ (b : Bool). ltb (byteAt page i) a && b) (past-all (i + 1) m (omega arith)) ∙ rw (List·getD-eq-default page 0 h) (and-same (ltb 0 a))
+
+  pub below-past : (i n m : ℕ) → n ≡ m + 1 → length page ≤ i → every (isBelow a) (literals page i n) ≡ ltb 0 a
+  below-past i n m e h = rw (e, add-one m) (past-all i m h)
 
 -- ---- bytes that rise: two neighbours, and the rest
 pub rises-step : (page : List ℕ) (k i n m : ℕ) → n ≡ m + 1 → 0 < m
@@ -125,10 +146,10 @@ bad-pairs false true a = refl
 bad-pairs false false a = refl
 
 -- ---- both bodies of a row; the place of the next row's literals
-pub bodies-spaced : (page : List ℕ) (r i : ℕ) → bodiesRise (ruleAt page r i)
-    ≡ (rises (spaced page 1 (i + headCount page r) (posCount page r)) && rises (spaced page 1 (i + headCount page r + posCount page r) (negCount page r)))
-unfolding bodiesRise ruleAt
-bodies-spaced page r i = simp spaced-literals
+pub bodies-spaced : (page : List ℕ) (row : Row) → bodiesRise (ruleOf page row)
+    ≡ (rises (spaced page 1 (row .place + row .head) (row .pos)) && rises (spaced page 1 (row .place + row .head + row .pos) (row .neg)))
+unfolding bodiesRise ruleOf
+bodies-spaced page row = simp spaced-literals
 
 pub place-next : (page : List ℕ) (r : ℕ) → literalPlace page (r + 1) ≡ literalPlace page r + literalsOf page r
 unfolding literalPlace

@@ -18,6 +18,19 @@ pub struct Row {
 pub fn row_from(page: &[u8], n: u16, place: u32) -> Row
     ensures { λ r. ⌜ r ≡ means.rowFrom (now (page .entry)) n place ⌝ }
 {
+    let at = 18 + 4 * (n as usize);
+    // One test for the row's four bytes, where the page has them all.
+    if at + 3 < page.len() {
+        let head = page[at];
+        let pos = page[at + 1];
+        let neg = page[at + 2];
+        return Row {
+            head,
+            pos,
+            neg,
+            place,
+        };
+    }
     let head = fields::head_count(page, n);
     let pos = fields::pos_count(page, n);
     let neg = fields::neg_count(page, n);

@@ -80,8 +80,8 @@ pub fn row_words(page: &[u8]) -> [u64; 32]
     ensures { λ r. ⌜ (length r ≡ 32) × (take (means.rowTotal (now (page .entry))) r ≡ means.rowWords (now (page .entry))) × (drop (means.rowTotal (now (page .entry))) r ≡ replicate (32 - means.rowTotal (now (page .entry))) 0) ⌝ }
 {
     let total = row_total(page);
-    let mut words = [0u64; 32];
     let mut place = rows::first_place(page);
+    let mut words = [0u64; 32];
     let mut n: usize = 0;
     while n < total {
         let row = rows::row_from(page, n as u16, place);
@@ -107,8 +107,8 @@ pub fn pair_words(page: &[u8]) -> [u16; 8]
     ensures { λ r. ⌜ (length r ≡ 8) × (take (means.pairTotal (now (page .entry))) r ≡ means.pairWords (now (page .entry))) × (drop (means.pairTotal (now (page .entry))) r ≡ replicate (8 - means.pairTotal (now (page .entry))) 0) ⌝ }
 {
     let many = pair_total(page);
-    let mut words = [0u16; 8];
     let mut at = fields::pairs_at(page) as usize;
+    let mut words = [0u16; 8];
     let mut n: usize = 0;
     while n < many {
         words[n] = pair_word(page, at);

@@ -2,20 +2,24 @@
 // condition refuses.
 ghost use mathlib.Core.Path.{_≡_};
 ghost use Prim.Native.Nat.{_≤_};
+ghost use mathlib.Core.Bool.{_&&_};
+ghost use lib.Dec.{leb, eqb};
 ghost use Rattle.lpod.specs.Lists.{every};
-ghost use Rattle.page.specs.Program.{literals, ruleAt, pairsFrom};
+ghost use Rattle.page.specs.Program.{literals, pairsFrom};
 ghost use Rattle.page.specs.Refusals as refusals;
+ghost use Rattle.page.specs.Rows.{ruleOf};
 ghost use Rattle.page.specs.Scan as scan;
 use crate::fields;
+use crate::rows;
 
-// The counts of row r are small enough, and its fourth byte is zero.
-fn row_fits(page: &[u8], r: u16) -> bool
-    ensures { λ b. ⌜ b ≡ refusals.rowFits (now (page .entry)) r ⌝ }
+// The counts of a row are small enough, and its fourth byte is zero.
+fn row_fits(row: rows::Row, last: u8) -> bool
+    ensures { λ b. ⌜ b ≡ (leb (row .head) 6 && (leb (row .pos) 8 && (leb (row .neg) 8 && eqb last 0))) ⌝ }
 {
-    let head = fields::head_count(page, r) <= 6;
-    let pos = fields::pos_count(page, r) <= 8;
-    let neg = fields::neg_count(page, r) <= 8;
-    let spare = fields::spare_byte(page, r) == 0;
+    let head = row.head <= 6;
+    let pos = row.pos <= 8;
+    let neg = row.neg <= 8;
+    let spare = last == 0;
     head & (pos & (neg & spare))
 }
 
@@ -23,27 +27,31 @@ fn row_fits(page: &[u8], r: u16) -> bool
 pub fn bad_counts(page: &[u8]) -> bool
     ensures { λ r. ⌜ r ≡ refusals.badCounts (now (page .entry)) ⌝ }
 {
-    let rows = fields::row_count(page);
-    let mut place = fields::literals_at(page) as usize;
+    let total = fields::row_count(page);
+    let mut place = rows::first_place(page);
     let mut r: u16 = 0;
-    while r < rows {
-        if !row_fits(page, r) {
+    while r < total {
+        let row = rows::row_from(page, r, place);
+        if !row_fits(row, fields::spare_byte(page, r)) {
             return true;
         }
-        place += fields::literals_of(page, r) as usize;
+        place = rows::place_after(row);
         r += 1;
     }
-    place != fields::pairs_at(page) as usize
+    place != fields::pairs_at(page)
 }
 
-// The n bytes from place `from` on are all below the number of atoms.
+// The n bytes from place `from` on are all below the number of atoms. Past the end all are 0, so one answer serves them.
 fn all_below(page: &[u8], from: u32, n: u32, atoms: u16) -> bool
     ensures { λ r. ⌜ r ≡ every (refusals.isBelow atoms) (literals (now (page .entry)) from n) ⌝ }
 {
     let mut i = from as usize;
     let mut left = n;
     while 0 < left {
-        if atoms <= fields::byte_at(page, i) as u16 {
+        if page.len() <= i {
+            return 0 < atoms;
+        }
+        if atoms <= page[i] as u16 {
             return false;
         }
         i += 1;
@@ -91,17 +99,14 @@ fn rises_by(page: &[u8], step: u8, from: usize, n: u16) -> bool
     true
 }
 
-// Both bodies of row r rise, its literals being at `place`.
-fn bodies_rise(page: &[u8], r: u16, place: usize) -> bool
-    requires { ⌜ place ≤ 5000000000 ⌝ }
-    ensures { λ b. ⌜ b ≡ refusals.bodiesRise (ruleAt (now (page .entry)) r place) ⌝ }
+// Both bodies of a row rise.
+fn bodies_rise(page: &[u8], row: rows::Row) -> bool
+    ensures { λ b. ⌜ b ≡ refusals.bodiesRise (ruleOf (now (page .entry)) row) ⌝ }
 {
-    let pos_at = place + fields::head_count(page, r) as usize;
-    let pos = fields::pos_count(page, r) as u16;
-    let neg_at = pos_at + pos as usize;
-    let neg = fields::neg_count(page, r) as u16;
-    let first = rises_by(page, 1, pos_at, pos);
-    let second = rises_by(page, 1, neg_at, neg);
+    let pos_at = row.place as usize + row.head as usize;
+    let neg_at = pos_at + row.pos as usize;
+    let first = rises_by(page, 1, pos_at, row.pos as u16);
+    let second = rises_by(page, 1, neg_at, row.neg as u16);
     first & second
 }
 
@@ -109,14 +114,15 @@ fn bodies_rise(page: &[u8], r: u16, place: usize) -> bool
 pub fn unsorted(page: &[u8]) -> bool
     ensures { λ r. ⌜ r ≡ refusals.unsorted (now (page .entry)) ⌝ }
 {
-    let rows = fields::row_count(page);
-    let mut place = fields::literals_at(page) as usize;
+    let total = fields::row_count(page);
+    let mut place = rows::first_place(page);
     let mut r: u16 = 0;
-    while r < rows {
-        if !bodies_rise(page, r, place) {
+    while r < total {
+        let row = rows::row_from(page, r, place);
+        if !bodies_rise(page, row) {
             return true;
         }
-        place += fields::literals_of(page, r) as usize;
+        place = rows::place_after(row);
         r += 1;
     }
     false

@@ -12,7 +12,7 @@ use Rattle.lanes.proofs.search.better_after.Tie as tie
 better-in-requires : tie.Need-better-in-requires
 better-in-requires c κs =
     let s = c .before .before .before .before .before in
-    (s .pre .0, s .pre .1, s .pre .2, omega arith, omega arith, omega (arith, s .pre .3 .fit), s .pre .3 .firsts)
+    (s .pre .0, s .pre .1, s .pre .2, s .pre .3, omega arith, omega arith, omega (arith, s .pre .4 .fit), s .pre .4 .firsts)
 
 cast-x : tie.Need-cast-x
 cast-x c = search needs
@@ -29,29 +29,29 @@ add-result-2 c =
     omega (arith, trailing-le 64 (c .before .better-in .result / 2 ^ (m % 64) / 2 ^ 1))
 
 returns : tie.Need-returns
-returns c M g =
+returns c =
     let x = c .before .better-in in
-    sym (after-first (rival _ _ M) _ (x .result) (x .ensures M g) (omega (arith, x .ok)) (c .if1 .taken) (omega arith))
+    sym (after-first (rival _ _ _) _ (x .result) (x .ensures) (omega (arith, x .ok)) (c .if1 .taken) (omega arith))
 
 next-block-requires : tie.Need-next-block-requires
-next-block-requires c κs = let s = c .before .before .before .before .before .before .before in (omega arith, s .pre .5, s .pre .6)
+next-block-requires c κs = let s = c .before .before .before .before .before .before .before in (omega arith, s .pre .6, s .pre .7)
 
 better-from-requires : tie.Need-better-from-requires
 better-from-requires c κs =
     let s = c .before .before .before .before .before .before .before .before in
     let n = c .next-block .ensures in
-    (s .pre .0, s .pre .1, s .pre .2, s .pre .3, n .1, n .3)
+    (s .pre .0, s .pre .1, s .pre .2, s .pre .3, s .pre .4, n .1, n .3)
 
 returns-2 : tie.Need-returns-2
-returns-2 c M g =
+returns-2 c =
     let d = c .before in
     let s = d .before .before .before .before .before .before .before .before in
     let x = d .before .before .better-in in
     let n = d .next-block in
     let m = s .args .m in
-    c .better-from .ensures M g
-    ∙ sym (scan-on _ _ M _ _ (s .pre .3 .between) (m + 1) (m / 64) (n .result) (omega arith)
-    (after-none (rival _ _ M) m (x .result) (x .ensures M g) (d .before .if1 .left)) (n .ensures .0) (n .ensures .1) (n .ensures .2))
+    c .better-from .ensures
+    ∙ sym (scan-on _ _ m _ _ (s .pre .4 .between) (m + 1) (m / 64) (n .result) (omega arith)
+    (after-none (rival _ _ m) m (x .result) (x .ensures) (d .before .if1 .left)) (n .ensures .0) (n .ensures .1) (n .ensures .2))
 
 pub better-after-spec : {M : Type 1} → statement M
 better-after-spec =

@@ -1,28 +1,26 @@
 -- `search::better_from` goes from block to block. What is kept: the least rival from block b on is the least from block c on, and block c lies between
 -- low and high where it is one. Assumes nothing.
 use mathlib.Core.Path.{_≡_, refl, sym, _∙_}
-use Prim.Native.Nat.{ℕ, _*_, _-_, _≤_, _<_}
+use Prim.Native.Nat.{_*_, _-_, _≤_, _<_}
 use native.Mathlib.Omega.{arith}
 use lib.Count.{trailing-le}
 use lib.Dec.{T}
 use Rattle.atoms.specs.Atoms.{inside}
 use Rattle.lanes.specs.Seek.{nextFrom}
-use Rattle.lanes.specs.Rank.{Grades}
 use Rattle.lanes.specs.Left.{rival}
 use Rattle.lanes.proofs.Scan.{word-none, word-first, scan-on, scan-end}
 use Rattle.lanes.proofs.search.better_from.Statement.{statement}
 use Rattle.lanes.proofs.search.better_from.Tie as tie
 
 abbrev Inv-loop : tie.InvT-loop
-Inv-loop rows lows deepest marks low high index grades first b c₀ c =
-    (c ≤ 1024) × (c < 1024 → T (inside low c) × T (inside c high))
-    × ((M : ℕ) → Grades rows grades M → nextFrom (rival rows marks M) (64 * b) ≡ nextFrom (rival rows marks M) (64 * c))
+Inv-loop rows lows deepest marks low high index grades first m b c₀ c =
+    (c ≤ 1024) × (c < 1024 → T (inside low c) × T (inside c high)) × (nextFrom (rival rows marks m) (64 * b) ≡ nextFrom (rival rows marks m) (64 * c))
 
 abbrev μ-loop : tie.MeasureT-loop
-μ-loop rows lows deepest marks low high index grades first b c₀ c = 1024 - c
+μ-loop rows lows deepest marks low high index grades first m b c₀ c = 1024 - c
 
 loop-holds : tie.Need-loop-holds Inv-loop μ-loop
-loop-holds c = let s = c .before .before .before .before .before in (s .pre .4, s .pre .5, λ M g. refl)
+loop-holds c = let s = c .before .before .before .before .before in (s .pre .5, s .pre .6, refl)
 
 cast-loop : tie.Need-cast-loop Inv-loop μ-loop
 cast-loop c = omega arith
@@ -30,7 +28,7 @@ cast-loop c = omega arith
 better-in-requires : tie.Need-better-in-requires Inv-loop μ-loop
 better-in-requires c κs =
     let s = c .before .before .before .before .before .before .before in
-    (s .pre .0, s .pre .1, s .pre .2, omega arith, omega arith, omega (arith, s .pre .3 .fit), s .pre .3 .firsts)
+    (s .pre .0, s .pre .1, s .pre .2, s .pre .3, omega arith, omega arith, omega (arith, s .pre .4 .fit), s .pre .4 .firsts)
 
 cast-result : tie.Need-cast-result Inv-loop μ-loop
 cast-result c = omega arith
@@ -42,10 +40,10 @@ add-result : tie.Need-add-result Inv-loop μ-loop
 add-result c = omega (arith, trailing-le 64 (c .before .better-in .result))
 
 returns : tie.Need-returns Inv-loop μ-loop
-returns c M g =
+returns c =
     let x = c .before .better-in in
     let h = c .before .before .before .loop in
-    sym (h .inv .2 M g ∙ word-first (rival _ _ M) (h .c) (x .result) (x .ensures M g) (omega (arith, x .ok)) (c .if1 .taken) (omega arith))
+    sym (h .inv .2 ∙ word-first (rival _ _ _) (h .c) (x .result) (x .ensures) (omega (arith, x .ok)) (c .if1 .taken) (omega arith))
 
 next-block-requires : tie.Need-next-block-requires Inv-loop μ-loop
 next-block-requires c κs =
@@ -66,16 +64,16 @@ loop-again c =
     let n = c .next-block in (
       n .ensures .1,
       n .ensures .3,
-      λ M g. h .inv .2 M g ∙ scan-on _ _ M _ _ (s .pre .3 .between) (64 * h .c) (h .c) (n .result) (omega arith)
-          (word-none (rival _ _ M) (h .c) (x .result) (x .ensures M g) (e .if1 .left)) (n .ensures .0) (n .ensures .1) (n .ensures .2),
+      h .inv .2 ∙ scan-on _ _ _ _ _ (s .pre .4 .between) (64 * h .c) (h .c) (n .result) (omega arith)
+          (word-none (rival _ _ _) (h .c) (x .result) (x .ensures) (e .if1 .left)) (n .ensures .0) (n .ensures .1) (n .ensures .2),
     )
 
 returns-2 : tie.Need-returns-2 Inv-loop μ-loop
-returns-2 c M g =
+returns-2 c =
     let l = c .before in
     let s = l .before .before .before .before .before .before in
     let h = l .loop in
-    sym (h .inv .2 M g ∙ scan-end _ _ M _ _ (s .pre .3 .between) (h .c) (h .inv .0) (c .loop-test .left))
+    sym (h .inv .2 ∙ scan-end _ _ _ _ _ (s .pre .4 .between) (h .c) (h .inv .0) (c .loop-test .left))
 
 pub better-from-spec : {M : Type 1} → statement M
 better-from-spec =

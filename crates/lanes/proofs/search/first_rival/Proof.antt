@@ -39,7 +39,7 @@ better-from-requires : tie.Need-better-from-requires
 better-from-requires c κs =
     let s = c .before .before .before .before .before .before .before .before .before .before .before .before .before .before in
     let p = s .pre .2 in
-    (s .pre .0, omega (arith, s .pre .1, c .before .before .before .before .before .before .before .grade .ensures .1), c .before .before .before .first-rows .ensures, p, omega (arith, p .start, p .few), λ l. (inside-test _ _ (λ i t. t), p .order))
+    (s .pre .0, omega (arith, s .pre .1, c .before .before .before .before .before .before .before .grade .ensures .1), c .before .before .before .before .before .before .before .grade .ensures .0, c .before .before .before .first-rows .ensures, p, omega (arith, p .start, p .few), λ l. (inside-test _ _ (λ i t. t), p .order))
 
 same-length-2 : tie.Need-same-length-2
 same-length-2 c = search needs
@@ -48,7 +48,7 @@ returns-2 : tie.Need-returns-2
 returns-2 c =
     let g = c .before .before .before .before .before .before .before .before .grade in
     let p = c .before .before .before .before .before .before .before .before .before .before .before .before .before .before .before .pre .2 in
-    (c .better-from .ensures _ (g .ensures .0) ∙ sym (scan-start _ _ _ _ _ (p .between) (omega (arith, p .start, p .few))), g .ensures .0, g .ensures .1)
+    (c .better-from .ensures ∙ sym (scan-start _ _ _ _ _ (p .between) (omega (arith, p .start, p .few))), g .ensures .0, g .ensures .1)
 
 pub first-rival-spec : {M : Type 1} → statement M
 first-rival-spec =

@@ -39,7 +39,7 @@ better-after-requires : tie.Need-better-after-requires
 better-after-requires c κs =
     let s = c .before .before .before .before .before .before .before .before .before .before .before .before .before .before in
     let p = stands _ _ _ _ _ (s .pre .2) (s .args .m) (s .pre .3) in
-    (s .pre .0, omega (arith, s .pre .1, c .before .before .before .before .before .before .before .grade .ensures .1), c .before .before .before .first-rows .ensures, s .pre .2, p .0, p .1, p .2)
+    (s .pre .0, omega (arith, s .pre .1, c .before .before .before .before .before .before .before .grade .ensures .1), c .before .before .before .before .before .before .before .grade .ensures .0, c .before .before .before .first-rows .ensures, s .pre .2, p .0, p .1, p .2)
 
 same-length-2 : tie.Need-same-length-2
 same-length-2 c = search needs
@@ -47,7 +47,7 @@ same-length-2 c = search needs
 returns-2 : tie.Need-returns-2
 returns-2 c =
     let g = c .before .before .before .before .before .before .before .before .grade in
-    (c .better-after .ensures _ (g .ensures .0), g .ensures .0, g .ensures .1)
+    (c .better-after .ensures, g .ensures .0, g .ensures .1)
 
 pub next-rival-spec : {M : Type 1} → statement M
 next-rival-spec =

@@ -8,8 +8,8 @@ use lib.ListN.{length}
 use Rattle.lanes.specs.Marks.{marked}
 use Rattle.lanes.specs.Left.{Left}
 use Rattle.lanes.proofs.Seek.{NoneBetween, next-passes}
-use Rattle.lanes.proofs.Index.{searched-left, stands}
-use Rattle.lanes.proofs.Champion.{reaches, stays, found-marked, found-over, left-start, left-best, left-more, settled-here, settled-end, cleared-left, cleared-on}
+use Rattle.lanes.proofs.Index.{searched-left}
+use Rattle.lanes.proofs.Champion.{reaches, stays, found-marked, found-over, left-start, left-best, left-more, settled-here, settled-end, passed-on}
 use Rattle.lanes.proofs.search.settle.Statement.{statement}
 use Rattle.lanes.proofs.search.settle.Tie as tie
 
@@ -52,73 +52,47 @@ returns c =
       r .ensures .2 ∙ i .3,
     )
 
-cast-champion : tie.Need-cast-champion Inv-loop μ-loop
-cast-champion c = omega arith
+cast-pass-beaten : tie.Need-cast-pass-beaten Inv-loop μ-loop
+cast-pass-beaten c = omega arith
 
-champion-requires : tie.Need-champion-requires Inv-loop μ-loop
-champion-requires c κs =
+cast-pass-beaten-2 : tie.Need-cast-pass-beaten-2 Inv-loop μ-loop
+cast-pass-beaten-2 c = omega arith
+
+pass-beaten-requires : tie.Need-pass-beaten-requires Inv-loop μ-loop
+pass-beaten-requires c κs =
     let a = c .before .before .before .before .before .before .before .before .before .before .before .before .before .before .before in
     let r = c .before .before .before .before .before .first-rival in
     let h = c .before .before .before .before .before .before .before .before .before .loop in
-    let i = h .inv in (
+    let i = h .inv in
+    let n = c .before .before .if1 .left in (
       a .pre .0,
       omega (arith, a .pre .1, i .3, r .ensures .2),
       searched-left _ _ _ _ _ _ (i .4 .same) (i .4 .less) (a .pre .2),
-      found-marked _ (h .marks) (h .s) 0 (r .result) (r .ensures .0) (c .before .before .if1 .left),
+      i .2 (omega (arith, c .before .before .before .before .before .before .before .before .loop-test .taken)),
+      found-marked _ (h .marks) (h .s) 0 (r .result) (r .ensures .0) n,
+      found-over _ (h .marks) (h .s) 0 (r .result) (r .ensures .0) n,
     )
-
-cast-clear-worse : tie.Need-cast-clear-worse Inv-loop μ-loop
-cast-clear-worse c = omega arith
-
-clear-worse-requires : tie.Need-clear-worse-requires Inv-loop μ-loop
-clear-worse-requires c κs =
-    let a = c .before .before .before .before .before .before .before .before .before .before .before .before .before .before .before .before .before .before .before .before in
-    let r = c .before .before .before .before .before .before .before .before .before .before .first-rival in
-    let h = c .before .before .before .before .before .before .before .before .before .before .before .before .before .before .loop in
-    let i = h .inv in
-    let z = searched-left _ _ _ (h .marks) _ _ (i .4 .same) (i .4 .less) (a .pre .2) in
-    let l : h .s < 65536 = omega (arith, c .before .before .before .before .before .before .before .before .before .before .before .before .before .loop-test .taken) in
-    let p = stands _ _ _ _ _ z (h .s) (i .2 l) in
-    (a .pre .0, omega (arith, a .pre .1, i .3, r .ensures .2, c .before .before .before .before .champion .ensures .3), z .few, z .between, omega arith, p .1, p .2)
-
-cast-next-after : tie.Need-cast-next-after Inv-loop μ-loop
-cast-next-after c = omega arith
-
-next-after-requires : tie.Need-next-after-requires Inv-loop μ-loop
-next-after-requires c κs =
-    let a = c .before .before .before .before .before .before .before .before .before .before .before .before .before .before .before .before .before .before .before .before .before .before .before .before in
-    let h = c .before .before .before .before .before .before .before .before .before .before .before .before .before .before .before .before .before .before .loop in
-    let i = h .inv in
-    let k = c .before .before .before .before .before .before .before .before .champion in
-    let w = c .before .before .before .clear-worse in
-    let z = searched-left _ _ _ (h .marks) _ _ (i .4 .same) (i .4 .less) (a .pre .2) in
-    let l : h .s < 65536 = omega (arith, c .before .before .before .before .before .before .before .before .before .before .before .before .before .before .before .before .before .loop-test .taken) in
-    let p = stands _ _ _ _ _ z (h .s) (i .2 l) in
-    let f = w .ensures .1 (k .result) (k .ensures .2) in
-    (omega (arith, w .ensures .0, z .few), λ s t. z .between s (f s .0 t .0), omega (arith, w .ensures .0, p .0), p .1, p .2)
 
 loop-less : tie.Need-loop-less Inv-loop μ-loop
 loop-less c =
-    let h = c .before .before .before .before .before .before .before .before .before .before .before .before .before .before .before .before .before .before .before .loop in
-    omega (arith, c .before .before .before .before .before .before .before .before .before .before .before .before .before .before .before .before .before .before .loop-test .taken, reaches _ (h .s + 1) (c .next-after .result) (c .next-after .ensures))
+    let h = c .before .before .before .before .before .before .before .before .before .before .before .before .before .before .loop in
+    let p = c .before .before .before .before .pass-beaten in
+    omega (arith, c .before .before .before .before .before .before .before .before .before .before .before .before .before .loop-test .taken, reaches _ (h .s + 1) (p .result) (p .ensures .0))
 
 loop-again : tie.Need-loop-again Inv-loop μ-loop
 loop-again c =
-    let h = c .before .before .before .before .before .before .before .before .before .before .before .before .before .before .before .before .before .before .before .loop in
+    let h = c .before .before .before .before .before .before .before .before .before .before .before .before .before .before .loop in
     let i = h .inv in
-    let r = c .before .before .before .before .before .before .before .before .before .before .before .before .before .before .before .first-rival in
-    let k = c .before .before .before .before .before .before .before .before .before .champion in
-    let w = c .before .before .before .before .clear-worse in
-    let n = c .next-after in
-    let l : h .s < 65536 = omega (arith, c .before .before .before .before .before .before .before .before .before .before .before .before .before .before .before .before .before .before .loop-test .taken) in
-    let f = w .ensures .1 (k .result) (k .ensures .2) in
-    let o = k .ensures .1 (h .s) (found-over _ (h .marks) (h .s) 0 (r .result) (r .ensures .0) (c .before .before .before .before .before .before .before .before .before .before .before .before .if1 .left)) in (
-      omega (arith, i .0, reaches _ (h .s + 1) (n .result) (n .ensures)),
-      stays _ (h .s + 1) (n .result) (n .ensures) (omega arith),
-      next-passes _ (h .s + 1) (n .result) (n .ensures),
-      k .ensures .3 ∙ r .ensures .2 ∙ i .3,
-      left-more _ _ (h .marks) (i .4) _ (cleared-left _ (h .marks) _ (k .result) _ f (w .ensures .0) (omega (arith, k .ok)) (k .ensures .0)),
-      cleared-on _ (h .marks) _ (k .result) _ f _ (h .s) (n .result) (omega arith) l o (n .ensures) (i .5),
+    let r = c .before .before .before .before .before .before .before .before .before .before .first-rival in
+    let p = c .before .before .before .before .pass-beaten in
+    let e = p .ensures in
+    let l : h .s < 65536 = omega (arith, c .before .before .before .before .before .before .before .before .before .before .before .before .before .loop-test .taken) in (
+      omega (arith, i .0, reaches _ (h .s + 1) (p .result) (e .0)),
+      stays _ (h .s + 1) (p .result) (e .0) (omega arith),
+      next-passes _ (h .s + 1) (p .result) (e .0),
+      e .3 ∙ r .ensures .2 ∙ i .3,
+      left-more _ _ (h .marks) (i .4) _ (e .1),
+      passed-on _ (h .marks) _ (e .1) _ (h .s) (p .result) (e .2) (e .0) (i .5),
     )
 
 same-length-3 : tie.Need-same-length-3 Inv-loop μ-loop
@@ -145,12 +119,9 @@ settle-spec =
     same-length
     same-length-2
     returns
-    cast-champion
-    champion-requires
-    cast-clear-worse
-    clear-worse-requires
-    cast-next-after
-    next-after-requires
+    cast-pass-beaten
+    cast-pass-beaten-2
+    pass-beaten-requires
     loop-less
     loop-again
     same-length-3

@@ -16,12 +16,12 @@ use Rattle.words.proofs.read.pair_words.Statement.{statement}
 use Rattle.words.proofs.read.pair_words.Tie as tie
 
 abbrev Inv-loop : tie.InvT-loop
-Inv-loop page many words₀ at₀ n₀ words at n =
+Inv-loop page many at₀ words₀ n₀ at words n =
     (n ≤ many) × (at + 2 * (many - n) ≤ 2 ^ 33) × (length words ≡ 8) × (take n words ++ map pairWord (pairsFrom page at (many - n)) ≡ pairWords page)
     × (drop n words ≡ replicate (8 - n) 0)
 
 abbrev μ-loop : tie.MeasureT-loop
-μ-loop page many words₀ at₀ n₀ words at n = many - n
+μ-loop page many at₀ words₀ n₀ at words n = many - n
 
 pair-total-requires : tie.Need-pair-total-requires Inv-loop μ-loop
 pair-total-requires c κs = tt

@@ -16,12 +16,12 @@ use Rattle.words.proofs.read.row_words.Statement.{statement}
 use Rattle.words.proofs.read.row_words.Tie as tie
 
 abbrev Inv-loop : tie.InvT-loop
-Inv-loop page total words₀ place₀ n₀ words place n =
+Inv-loop page total place₀ words₀ n₀ place words n =
     (n ≤ total) × (place ≡ literalPlace page n) × (length words ≡ 32) × (take n words ++ map rowWord (rowsFrom page n place (total - n)) ≡ rowWords page)
     × (drop n words ≡ replicate (32 - n) 0)
 
 abbrev μ-loop : tie.MeasureT-loop
-μ-loop page total words₀ place₀ n₀ words place n = total - n
+μ-loop page total place₀ words₀ n₀ place words n = total - n
 
 row-total-requires : tie.Need-row-total-requires Inv-loop μ-loop
 row-total-requires c κs = tt

@@ -1,61 +1,70 @@
 -- `bad_counts` answers what `badCounts` says. The rows that are left decide whether all fit, since those passed do; `place` is where the
 -- next row's literals start, so in the end where the last row's literals stop. The measure is how many rows are left. Assumes nothing.
-use Prim.Native.Nat.{_+_, _*_, _-_, _≤_}
+use Prim.Native.Nat.{ℕ, _-_, _+_, _≤_}
 use mathlib.Core.Path.{_≡_, refl, sym, _∙_}
+use mathlib.Core.Bool.{Bool, _&&_}
+use mathlib.Core.List.{List}
 use native.Mathlib.Nat.{sub-zero}
 use native.Mathlib.Omega.{arith}
+use lib.Dec.{leb, eqb}
 use borrow.Author.Tests.{not-true, not-false}
 use denote.Ref.{now}
 use Rattle.lpod.specs.Lists.{every, below, numbers}
-use Rattle.page.specs.Fields.{literalsAt, rowsAt, rowCount}
+use Rattle.page.specs.Fields.{rowCount, spareByte}
 use Rattle.page.specs.Program.{literalPlace}
 use Rattle.page.specs.Refusals.{badCounts, rowFits}
-use Rattle.page.proofs.Scan.{numbers-step, numbers-none, place-next, every-go, every-stop, every-none}
+use Rattle.page.specs.Rows.{rowFrom}
+use Rattle.page.specs.declared.rows.Row.{Row}
+use Rattle.page.proofs.RowSteps.{at-first, at-next}
+use Rattle.page.proofs.Scan.{numbers-step, numbers-none, every-go, every-stop, every-none}
 use Rattle.page.proofs.accept.content.bad_counts.Statement.{statement}
 use Rattle.page.proofs.accept.content.bad_counts.Tie as tie
 
 abbrev Inv-loop : tie.InvT-loop
-Inv-loop page rows place₀ r₀ place r =
-    (r ≤ rows) × (place ≤ 262158 + 65535 * r) × (place ≡ literalPlace page r)
-    × (every (rowFits page) (below (rowCount page)) ≡ every (rowFits page) (numbers r (rows - r)))
+Inv-loop page total place₀ r₀ place r =
+    (r ≤ total) × (place ≡ literalPlace page r)
+    × (every (rowFits page) (below (rowCount page)) ≡ every (rowFits page) (numbers r (total - r)))
 
 abbrev μ-loop : tie.MeasureT-loop
-μ-loop page rows place₀ r₀ place r = rows - r
+μ-loop page total place₀ r₀ place r = total - r
 
 row-count-requires : tie.Need-row-count-requires Inv-loop μ-loop
 row-count-requires c κs = tt
 
-literals-at-requires : tie.Need-literals-at-requires Inv-loop μ-loop
-literals-at-requires c κs = tt
-
-cast-place : tie.Need-cast-place Inv-loop μ-loop
-cast-place c = omega arith
+first-place-requires : tie.Need-first-place-requires Inv-loop μ-loop
+first-place-requires c κs = tt
 
 loop-holds : tie.Need-loop-holds Inv-loop μ-loop
-unfolding literalsAt rowsAt literalPlace
-loop-holds c = (omega arith, omega arith, c .literals-at .ensures, rw (← c .before .row-count .ensures, sub-zero) refl)
+loop-holds c = (omega arith, at-first _ _ (c .first-place .ensures), rw (← c .before .row-count .ensures, sub-zero) refl)
+
+row-from-requires : tie.Need-row-from-requires Inv-loop μ-loop
+row-from-requires c κs = tt
+
+spare-byte-requires : tie.Need-spare-byte-requires Inv-loop μ-loop
+spare-byte-requires c κs = tt
 
 row-fits-requires : tie.Need-row-fits-requires Inv-loop μ-loop
 row-fits-requires c κs = tt
 
+-- the row in hand, with its fourth byte, is tested as the definition tests it
+fits-row : (page : List ℕ) (n i s : ℕ) (row : Row) → row ≡ rowFrom page n i → s ≡ spareByte page n
+    → (b : Bool) → b ≡ (leb (row .head) 6 && (leb (row .pos) 8 && (leb (row .neg) 8 && eqb s 0))) → rowFits page n ≡ b
+unfolding rowFits rowFrom
+fits-row page n i s row e es b eb = sym (eb ∙ rw (e, es))
+
 returns : tie.Need-returns Inv-loop μ-loop
 unfolding badCounts
 returns c =
-    let h = c .before .before .before .loop in
-    let d = c .before .before .before .before in
-    let rows = d .before .row-count .result in
+    let h = c .before .before .before .before .before .loop in
+    let d = c .before .before .before .before .before .before in
+    let total = d .before .row-count .result in
     let page = now (d .before .before .before .args .page) in
-    rw (h .inv .3 ∙ every-stop (rowFits page) _ _ _ (numbers-step (h .r) (rows - h .r) (rows - (h .r + 1)) (omega arith))
-    (sym (c .before .row-fits .ensures) ∙ not-true _ (c .if1 .taken)))
+    let fits = fits-row page (h .r) (h .place) _ _ (c .before .before .before .row-from .ensures) (c .before .before .spare-byte .ensures) _ (c .before .row-fits .ensures) in
+    rw (h .inv .2 ∙ every-stop (rowFits page) _ _ _ (numbers-step (h .r) (total - h .r) (total - (h .r + 1)) (omega arith))
+    (fits ∙ not-true _ (c .if1 .taken)))
 
-literals-of-requires : tie.Need-literals-of-requires Inv-loop μ-loop
-literals-of-requires c κs = tt
-
-cast-place-2 : tie.Need-cast-place-2 Inv-loop μ-loop
-cast-place-2 c = omega arith
-
-add-place : tie.Need-add-place Inv-loop μ-loop
-add-place c = omega arith
+place-after-requires : tie.Need-place-after-requires Inv-loop μ-loop
+place-after-requires c κs = tt
 
 add-r : tie.Need-add-r Inv-loop μ-loop
 add-r c = omega arith
@@ -65,33 +74,32 @@ loop-less c = omega arith
 
 loop-again : tie.Need-loop-again Inv-loop μ-loop
 loop-again c =
-    let h = c .before .before .before .before .loop in
-    let d = c .before .before .before .before .before in
-    let rows = d .before .row-count .result in
-    let page = now (d .before .before .before .args .page) in (
+    let b = c .before .before in
+    let row = b .before .before .row-from in
+    let h = b .before .before .before .before .loop in
+    let d = b .before .before .before .before .before in
+    let total = d .before .row-count .result in
+    let page = now (d .before .before .before .args .page) in
+    let fits = fits-row page (h .r) (h .place) _ _ (row .ensures) (b .before .spare-byte .ensures) _ (b .row-fits .ensures) in (
       omega arith,
-      omega arith,
-      cc (place-next page (h .r)),
-      h .inv .3 ∙ every-go (rowFits page) _ _ _ (numbers-step (h .r) (rows - h .r) (rows - (h .r + 1)) (omega arith))
-          (sym (c .before .before .row-fits .ensures) ∙ not-false _ (c .before .if1 .left)),
+      at-next _ (d .before .before .shared-slice-known .given) (h .r) _ (row .result) (omega arith) (h .inv .1) (row .ensures) _ (c .place-after .ensures),
+      h .inv .2 ∙ every-go (rowFits page) _ _ _ (numbers-step (h .r) (total - h .r) (total - (h .r + 1)) (omega arith))
+          (fits ∙ not-false _ (c .before .if1 .left)),
     )
 
 pairs-at-requires : tie.Need-pairs-at-requires Inv-loop μ-loop
 pairs-at-requires c κs = tt
-
-cast-result : tie.Need-cast-result Inv-loop μ-loop
-cast-result c = omega arith
 
 returns-2 : tie.Need-returns-2 Inv-loop μ-loop
 unfolding badCounts
 returns-2 c =
     let h = c .before .before .loop in
     let d = c .before .before .before in
-    let rows = d .before .row-count .result in
+    let total = d .before .row-count .result in
     let page = now (d .before .before .before .args .page) in
-    let all = h .inv .3 ∙ every-none (rowFits page) _ (numbers-none (h .r) _ (omega arith)) in
-    let last : h .r ≡ rows = omega arith in
-    rw (all, ← c .pairs-at .ensures, ← d .before .row-count .ensures, ← last, ← h .inv .2)
+    let all = h .inv .2 ∙ every-none (rowFits page) _ (numbers-none (h .r) _ (omega arith)) in
+    let last : h .r ≡ total = omega arith in
+    rw (all, ← c .pairs-at .ensures, ← d .before .row-count .ensures, ← last, ← h .inv .1)
 
 pub bad-counts-spec : {M : Type 1} → statement M
 bad-counts-spec =
@@ -100,17 +108,15 @@ bad-counts-spec =
     Inv-loop
     μ-loop
     row-count-requires
-    literals-at-requires
-    cast-place
+    first-place-requires
     loop-holds
+    row-from-requires
+    spare-byte-requires
     row-fits-requires
     returns
-    literals-of-requires
-    cast-place-2
-    add-place
+    place-after-requires
     add-r
     loop-less
     loop-again
     pairs-at-requires
-    cast-result
     returns-2)

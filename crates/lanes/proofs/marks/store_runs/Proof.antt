@@ -1,29 +1,22 @@
--- `marks::store_block` goes from run to run. What is kept: x is what is left of the word from the set s on, and the sets from s on, stored from `at`
--- on, leave what all sets of the block do. Assumes nothing.
+-- `marks::store_runs` goes from run to run. Assumes nothing.
 use mathlib.Core.Path.{_≡_, refl, sym, ap, _∙_}
 use mathlib.Core.List.{List}
-use Prim.Native.Nat.{ℕ, _+_, _-_, _*_, _/_, _^_, _≤_}
+use Prim.Native.Nat.{ℕ, _+_, _-_, _*_, _/_, _^_}
 use native.Mathlib.Omega.{arith}
 use denote.Ref.{now}
 use lib.Count.{trailingZeros}
-use lib.ListN.{length, getD}
+use lib.ListN.{length}
 use lib.Seq.{sets}
-use Rattle.lpod.specs.Lists.{keep, numbers}
-use Rattle.lanes.specs.Marks.{marked}
 use Rattle.lanes.proofs.Words.{full}
-use Rattle.lanes.proofs.BlockSets.{passing}
-use Rattle.lanes.proofs.Runs.{Run, next-run, runs-word, runs-all, runs-done, run-length, run-stored, run-same}
-use Rattle.lanes.proofs.marks.store_block.Statement.{statement}
-use Rattle.lanes.proofs.marks.store_block.Tie as tie
-use Rattle.lanes.proofs.marks.store_block.Reads as reads
-use Rattle.lanes.proofs.marks.store_block.Lts as lts
+use Rattle.lanes.proofs.Runs.{ToStore, Run, next-run, runs-word, runs-all, runs-done, run-length, run-stored, run-same}
+use Rattle.lanes.proofs.marks.store_runs.Statement.{statement}
+use Rattle.lanes.proofs.marks.store_runs.Tie as tie
+use Rattle.lanes.proofs.marks.store_runs.Reads as reads
+use Rattle.lanes.proofs.marks.store_runs.Lts as lts
 use Rattle.lanes.proofs.marks.store_run.Reads as store-run-reads
 
 abbrev Inv-loop : tie.InvT-loop
-Inv-loop marks b out₀ k x₀ s₀ at₀ out x s at =
-    (64 * b ≤ s) × (s ≤ 64 * b + 64) × (x ≡ getD marks b 0 / 2 ^ (s - 64 * b)) × (length out ≡ length out₀)
-    × (k + length (keep (marked marks) (numbers (64 * b) 64)) ≡ at + length (passing (marked marks) s (64 * b + 64)))
-    × (sets out₀ k (keep (marked marks) (numbers (64 * b) 64)) ≡ sets out at (passing (marked marks) s (64 * b + 64)))
+Inv-loop marks b out₀ k x₀ s₀ at₀ out x s at = ToStore marks b out₀ k out x s at
 
 abbrev μ-loop : tie.MeasureT-loop
 μ-loop marks b out₀ k x₀ s₀ at₀ out x s at = 64 * b + 64 - s
@@ -118,8 +111,8 @@ returns c =
     let e = runs-done (now (a .marks)) (a .b) (h .s) (h .x) (h .inv .0) (h .inv .1) (h .inv .2) (c .loop-test .left) in
     (sym (h .inv .5 ∙ ap (sets (h .out) (h .at)) e), omega (arith, h .inv .4, ap length e))
 
-pub store-block-spec : {M : Type 1} → statement M
-store-block-spec =
+pub store-runs-spec : {M : Type 1} → statement M
+store-runs-spec =
     tie.close
     (tie.spec
     Inv-loop
