@@ -78,9 +78,9 @@ fn supported(rows: &[u64], lows: &[u64], flags: u16, b: u16, w: &[u64; 16], x: u
 {
     let mut ok = x;
     let mut cur = flag_words(flags);
+    let mut old = cur;
     let mut left: u8 = 16;
     while 0 < left {
-        let old = cur;
         let p = close::pass(rows, lows, b, w, &mut cur);
         ok = ok & p.ok;
         if ok == 0 {
@@ -94,6 +94,7 @@ fn supported(rows: &[u64], lows: &[u64], flags: u16, b: u16, w: &[u64; 16], x: u
         if open & !same(&old, &cur) == 0 {
             return ok & there;
         }
+        old = cur;
         left -= 1;
     }
     ok & same(&cur, w)

@@ -16,12 +16,12 @@ use Rattle.lanes.proofs.answer.supported.Statement.{statement}
 use Rattle.lanes.proofs.answer.supported.Tie as tie
 
 abbrev Inv-loop : tie.InvT-loop
-Inv-loop rows lows flags b w x ok₀ cur₀ left₀ ok cur left =
+Inv-loop rows lows flags b w x ok₀ cur₀ old₀ left₀ ok cur old left =
     (length cur ≡ 16) × (left ≤ 16) × ((j : ℕ) → j < 64 → Kept (rulesIn rows) (64 * b + j) (has x j) left (has ok j))
-    × ((j : ℕ) → j < 64 → T (has x j) → Come (rulesIn rows) flags (64 * b + j) (16 - left) (column cur j))
+    × ((j : ℕ) → j < 64 → T (has x j) → Come (rulesIn rows) flags (64 * b + j) (16 - left) (column cur j)) × (old ≡ cur)
 
 abbrev μ-loop : tie.MeasureT-loop
-μ-loop rows lows flags b w x ok₀ cur₀ left₀ ok cur left = left
+μ-loop rows lows flags b w x ok₀ cur₀ old₀ left₀ ok cur old left = left
 
 flag-words-requires : tie.Need-flag-words-requires Inv-loop μ-loop
 flag-words-requires c κs = tt
@@ -35,6 +35,7 @@ loop-holds c =
       omega arith,
       λ j l. kept-start P (64 * s .args .b + j) (has (s .args .x) j),
       λ j l t. subst (Come P f (64 * s .args .b + j) 0) (sym (c .flag-words .ensures .1 j l)) (come-start P f (64 * s .args .b + j) (omega arith) (test-inside f (64 * s .args .b + j) (s .pre .4 j l t))),
+      refl,
     )
 
 pass-requires : tie.Need-pass-requires Inv-loop μ-loop
@@ -72,7 +73,7 @@ returns-2 c =
     (omega arith) (16 - h .left) (h .inv .3 j l) (r .ensures .3 j l) (r .result .wait) (r .ensures .2 j l) (c .if2 .taken)
 
 same-requires-2 : tie.Need-same-requires-2 Inv-loop μ-loop
-same-requires-2 c κs = let g = c .before .before .before .before .before .before .before .before in (g .before .before .before .loop .inv .0, g .pass .ensures .0)
+same-requires-2 c κs = let g = c .before .before .before .before .before .before .before .before in (let h = g .before .before .before .loop in ap length (h .inv .4) ∙ h .inv .0, g .pass .ensures .0)
 
 returns-3 : tie.Need-returns-3 Inv-loop μ-loop
 unfolding rulesWith
@@ -89,7 +90,7 @@ returns-3 c =
     stop-same P (s .args .flags) (I j) j l (s .args .x) (bitAnd (h .ok) (r .result .ok)) (t .result)
     (kept-turn P (I j) (has (s .args .x) j) (h .left) (h .ok) (r .result .ok) j (h .inv .2 j l) (r .ensures .1 j l))
     (column (h .cur) j) _ (column (now (s .args .w)) j) (omega (arith, t .ok)) (t .ensures j l) (s .pre .1 .1 j l)
-    (omega arith) (16 - h .left) (h .inv .3 j l) (r .ensures .3 j l) (q .result) (omega (arith, q .ok)) (q .ensures j l) (c .if3 .taken)
+    (omega arith) (16 - h .left) (h .inv .3 j l) (r .ensures .3 j l) (q .result) (omega (arith, q .ok)) (rw (h .inv .4) at (q .ensures j l)) (c .if3 .taken)
 
 sub-left : tie.Need-sub-left Inv-loop μ-loop
 sub-left c = omega arith
@@ -109,6 +110,7 @@ loop-again c =
       omega arith,
       λ j l. kept-later P (I j) (has (s .args .x) j) (h .left - 1) (omega arith) _ (kept-turn P (I j) (has (s .args .x) j) (h .left) (h .ok) (r .result .ok) j (h .inv .2 j l) (r .ensures .1 j l)),
       λ j l t. come-later P (s .args .flags) (I j) (omega arith) (16 - h .left) (16 - (h .left - 1)) (column (h .cur) j) _ (omega arith) (r .ensures .3 j l) (h .inv .3 j l t),
+      refl,
     )
 
 same-requires-3 : tie.Need-same-requires-3 Inv-loop μ-loop
