@@ -3,17 +3,19 @@
 use mathlib.Core.Path.{_≡_, refl, sym, ap, _∙_, subst}
 use mathlib.Core.Bool.{Bool, true, false, _&&_, _||_, not, and-true, and-false, or-true}
 use mathlib.Core.List.{List, [], _∷_}
-use Prim.Native.Nat.{ℕ, _+_, _-_, _*_, _/_, _%_, _^_, _≤_, _<_}
+use Prim.Native.Nat.{ℕ, zero, suc, _+_, _-_, _*_, _/_, _%_, _^_, _≤_, _<_}
+use native.Mathlib.Nat.{mod-lt, zero-lt-suc, pow-suc}
 use native.Mathlib.Decide.{ℕ-discrete, decLt}
 use native.Mathlib.Omega.{arith}
 use lib.Arith.{lt-of-le-ne}
 use lib.Bits.{bitAnd}
-use lib.Dec.{T, eqb, eqb→eq, eqb-refl, T-not, not-T}
+use lib.Count.{trailingZeros, under}
+use lib.Dec.{T, eqb, eqb→eq, eqb-refl, T-not, not-T, eqb·suc-zero, eqb·suc-suc}
 use lib.ListN.{length, getD, set}
 use lib.Seq.{getD-set-same, getD-set-other}
 use Rattle.atoms.specs.Atoms.{has, inside, common, lowest}
 use Rattle.atoms.proofs.Truth.{and-l, and-r, both, same-yes, yes-true}
-use Rattle.atoms.proofs.Bits.{has-and, has-zero, has-single, has-below, inside-le, shl-single}
+use Rattle.atoms.proofs.Bits.{has-and, has-zero, has-low, has-next, has-below, inside-le}
 use Rattle.atoms.proofs.Count.{lowest-in}
 use Rattle.lpod.specs.Lists.{every, some, keep, numbers, below}
 use Rattle.lpod.proofs.Lists.{every-at, every-made, keep-in, in-keep, numbers-in}
@@ -22,7 +24,7 @@ use Rattle.words.specs.Coded.{atomsIn, posSet, negSet, ruleIn}
 use Rattle.words.proofs.Bodies.{body-all, body-some}
 use borrow.Author.Tests.{eq-eqb, ne-eqb}
 use Rattle.lanes.specs.Lanes.{column, Block, LowBody}
-use Rattle.lanes.proofs.Words.{full, has-complement, has-not, has-full, has-column, low-six, high-ten}
+use Rattle.lanes.proofs.Words.{full, has-not, has-full, has-column, low-six, high-ten}
 
 -- ---- the atoms of a list of them are those of the set
 module _ (q : ℕ → Bool) (p : ℕ) where
@@ -38,9 +40,35 @@ and-assoc : (a b c : Bool) → ((a && b) && c) ≡ (a && (b && c))
 and-assoc true b c = refl
 and-assoc false b c = refl
 
+twice : (b : Bool) → (b && b) ≡ (b && true)
+twice true = refl
+twice false = refl
+
+-- ---- a number and the one before it have the same bits above the lowest that is set, and below it only the one before has any
+abbrev Shared : ℕ → ℕ → ℕ → Type 0
+Shared p a i = (has p i && has (p - 1) i) ≡ (has p i && not (eqb i a))
+
+shared : (k p : ℕ) → p < 2 ^ k → 0 < p → (i : ℕ) → Shared p (trailingZeros k p) i
+unfolding trailingZeros
+shared zero p h z i = absurd (omega arith)
+shared (suc k) p h z i =
+    go (p % 2) refl (mod-lt p (zero-lt-suc 1)) i
+    (λ e j. let q : p < 2 ^ k * 2 = rw (← pow-suc 2 k) h in shared k (p / 2) (omega arith) (omega arith) j)
+  where
+    go : (d : ℕ) → p % 2 ≡ d → d < 2 → (i : ℕ) → (p % 2 ≡ 0 → (j : ℕ) → Shared (p / 2) (trailingZeros k (p / 2)) j) → Shared p (under d (trailingZeros k (p / 2))) i
+    go zero e l zero ih = rw (has-low p, e)
+    go zero e l (suc i) ih =
+        let d : (p - 1) / 2 ≡ p / 2 - 1 = omega arith in
+        rw (has-next p i, has-next (p - 1) i, d, eqb·suc-suc i (trailingZeros k (p / 2))) (ih e i)
+    go (suc zero) e l zero ih = let d : (p - 1) % 2 ≡ 0 = omega arith in rw (has-low (p - 1), d)
+    go (suc zero) e l (suc i) ih =
+        let d : (p - 1) / 2 ≡ p / 2 = omega arith in
+        rw (has-next p i, has-next (p - 1) i, d, eqb·suc-zero i) (twice (has (p / 2) i))
+    go (suc (suc d)) e l i ih = absurd (omega arith)
+
 -- ---- the lowest atom of a set that is not empty, and the set without it, as the code takes it out
-abbrev pub without : ℕ → ℕ → ℕ
-without p a = bitAnd p (65535 - 1 * 2 ^ a % 65536)
+abbrev pub without : ℕ → ℕ
+without p = bitAnd p (p - 1)
 
 module _ (p : ℕ) (h : p < 65536) (z : p ≡ 0 → ⊥) (a : ℕ) (e : a ≡ lowest p) where
   pub lowest-has : T (has p a)
@@ -49,34 +77,32 @@ module _ (p : ℕ) (h : p < 65536) (z : p ≡ 0 → ⊥) (a : ℕ) (e : a ≡ lo
   pub lowest-small : a < 16
   lowest-small = has-below 16 p a h lowest-has
 
-  pub rest-has : (i : ℕ) → i < 16 → has (without p a) i ≡ (has p i && not (eqb i a))
-  rest-has i l =
-      has-and p (65535 - 1 * 2 ^ a % 65536) i
-      ∙ ap (λ (b : Bool). has p i && b) (has-complement 16 (1 * 2 ^ a % 65536) i (omega arith) l ∙ ap (λ (x : ℕ). not (has x i)) (shl-single a lowest-small) ∙ ap (λ (b : Bool). not b) (has-single a i))
+  pub rest-has : (i : ℕ) → has (without p) i ≡ (has p i && not (eqb i a))
+  rest-has i = has-and p (p - 1) i ∙ shared 16 p h (omega arith) i ∙ ap (λ (x : ℕ). has p i && not (eqb i x)) (sym e)
 
-  rest-part : (i : ℕ) → T (has (without p a) i) → T (has p i)
-  rest-part i t = and-l (has p i) (has (65535 - 1 * 2 ^ a % 65536) i) (subst T (has-and p (65535 - 1 * 2 ^ a % 65536) i) t)
+  rest-part : (i : ℕ) → T (has (without p) i) → T (has p i)
+  rest-part i t = and-l (has p i) (has (p - 1) i) (subst T (has-and p (p - 1) i) t)
 
-  rest-not : T (has (without p a) a) → ⊥
-  rest-not t = T-not (eqb a a) (and-r (has p a) (not (eqb a a)) (subst T (rest-has a lowest-small) t)) (eqb-refl a)
+  rest-not : T (has (without p) a) → ⊥
+  rest-not t = T-not (eqb a a) (and-r (has p a) (not (eqb a a)) (subst T (rest-has a) t)) (eqb-refl a)
 
-  pub rest-less : (without p a) < p
-  rest-less = lt-of-le-ne (inside-le (without p a) p rest-part) (λ q. rest-not (subst (λ (x : ℕ). T (has x a)) (sym q) lowest-has))
+  pub rest-less : (without p) < p
+  rest-less = lt-of-le-ne (inside-le (without p) p rest-part) (λ q. rest-not (subst (λ (x : ℕ). T (has x a)) (sym q) lowest-has))
 
-  rest-made : (i : ℕ) → T (has p i) → (i ≡ a → ⊥) → T (has (without p a) i)
-  rest-made i t n = subst T (sym (rest-has i (has-below 16 p i h t))) (both (has p i) (not (eqb i a)) t (not-T (eqb i a) (λ u. n (eqb→eq i a u))))
+  rest-made : (i : ℕ) → T (has p i) → (i ≡ a → ⊥) → T (has (without p) i)
+  rest-made i t n = subst T (sym (rest-has i)) (both (has p i) (not (eqb i a)) t (not-T (eqb i a) (λ u. n (eqb→eq i a u))))
 
   -- what holds of every atom holds of the lowest and of the others
   module _ (q : ℕ → Bool) where
-    pub atoms-step : every q (atomsIn p) ≡ (q a && every q (atomsIn (without p a)))
+    pub atoms-step : every q (atomsIn p) ≡ (q a && every q (atomsIn (without p)))
     atoms-step =
-        same-yes (every q (atomsIn p)) (q a && every q (atomsIn (without p a)))
-        (λ t. both (q a) (every q (atomsIn (without p a))) (of-atoms q p h t a lowest-has) (to-atoms q (without p a) (λ i u. of-atoms q p h t i (rest-part i u))))
-        (λ t. to-atoms q p (λ i u. go i u (ℕ-discrete i a) (and-l (q a) (every q (atomsIn (without p a))) t) (and-r (q a) (every q (atomsIn (without p a))) t)))
+        same-yes (every q (atomsIn p)) (q a && every q (atomsIn (without p)))
+        (λ t. both (q a) (every q (atomsIn (without p))) (of-atoms q p h t a lowest-has) (to-atoms q (without p) (λ i u. of-atoms q p h t i (rest-part i u))))
+        (λ t. to-atoms q p (λ i u. go i u (ℕ-discrete i a) (and-l (q a) (every q (atomsIn (without p))) t) (and-r (q a) (every q (atomsIn (without p))) t)))
       where
-        go : (i : ℕ) → T (has p i) → Dec (i ≡ a) → T (q a) → T (every q (atomsIn (without p a))) → T (q i)
+        go : (i : ℕ) → T (has p i) → Dec (i ≡ a) → T (q a) → T (every q (atomsIn (without p))) → T (q i)
         go i u (yes e) t v = subst (λ (x : ℕ). T (q x)) (sym e) t
-        go i u (no e) t v = of-atoms q (without p a) (omega (arith, rest-less)) v i (rest-made i u e)
+        go i u (no e) t v = of-atoms q (without p) (omega (arith, rest-less)) v i (rest-made i u e)
 
 pub none-every : (l : List ℕ) (s : ℕ) → noneIn l s ≡ every (λ a. not (has s a)) l
 unfolding noneIn someIn some every
@@ -89,17 +115,17 @@ none-every (a ∷ l) s = go (has s a) (none-every l s)
 
 -- ---- the words of atoms raised one after the other
 module _ (p : ℕ) (h : p < 65536) (z : p ≡ 0 → ⊥) (k : ℕ) (e : k ≡ lowest p) (w : List ℕ) (few : length w ≡ 16) where
-  pub raise-turn : (a j : ℕ) → a < 16 → j < 64 → (has p a || has (getD w a 0) j) ≡ (has (without p k) a || has (getD (set w k full) a 0) j)
+  pub raise-turn : (a j : ℕ) → a < 16 → j < 64 → (has p a || has (getD w a 0) j) ≡ (has (without p) a || has (getD (set w k full) a 0) j)
   raise-turn a j l m = go (ℕ-discrete a k)
     where
-      go : Dec (a ≡ k) → (has p a || has (getD w a 0) j) ≡ (has (without p k) a || has (getD (set w k full) a 0) j)
+      go : Dec (a ≡ k) → (has p a || has (getD w a 0) j) ≡ (has (without p) a || has (getD (set w k full) a 0) j)
       go (yes q) =
           let t : has p a ≡ true = ap (has p) q ∙ yes-true (has p k) (lowest-has p h z k e) in
           let f : has (getD (set w k full) a 0) j ≡ true =
           ap (λ (i : ℕ). has (getD (set w k full) i 0) j) q ∙ ap (λ (x : ℕ). has x j) (getD-set-same w k full 0 (omega (arith, few, lowest-small p h z k e))) ∙ has-full j m in
-          rw (t, f) (sym (or-true (has (without p k) a)))
+          rw (t, f) (sym (or-true (has (without p) a)))
       go (no n) =
-          rw (rest-has p h z k e a l, ne-eqb a k n, getD-set-other w k a full 0 n) (ap (λ (b : Bool). b || has (getD w a 0) j) (sym (and-true (has p a))))
+          rw (rest-has p h z k e a, ne-eqb a k n, getD-set-other w k a full 0 n) (ap (λ (b : Bool). b || has (getD w a 0) j) (sym (and-true (has p a))))
 
 pub raise-end : (p : ℕ) (w : List ℕ) → p ≡ 0 → (a j : ℕ) → (has p a || has (getD w a 0) j) ≡ has (getD w a 0) j
 raise-end p w e a j = rw (e, has-zero a)
@@ -109,21 +135,21 @@ module _ (p : ℕ) (h : p < 65536) (z : p ≡ 0 → ⊥) (a : ℕ) (e : a ≡ lo
   word-has : has (column w j) a ≡ has v j
   word-has = has-column w j a ∙ ap (λ (x : ℕ). has x j) (sym ev)
 
-  pub all-turn : (has y j && allIn (atomsIn p) (column w j)) ≡ (has (bitAnd y (v)) j && allIn (atomsIn (without p a)) (column w j))
+  pub all-turn : (has y j && allIn (atomsIn p) (column w j)) ≡ (has (bitAnd y (v)) j && allIn (atomsIn (without p)) (column w j))
   unfolding allIn
   all-turn =
-      let R : Bool = every (has (column w j)) (atomsIn (without p a)) in
+      let R : Bool = every (has (column w j)) (atomsIn (without p)) in
       ap (λ (b : Bool). has y j && b) (atoms-step p h z a e (has (column w j)) ∙ ap (λ (b : Bool). b && R) word-has)
       ∙ sym (and-assoc (has y j) (has (v) j) R) ∙ ap (λ (b : Bool). b && R) (sym (has-and y (v) j))
 
-  pub none-turn : j < 64 → v ≤ full → (has y j && noneIn (atomsIn p) (column w j)) ≡ (has (bitAnd y (full - v)) j && noneIn (atomsIn (without p a)) (column w j))
+  pub none-turn : j < 64 → v ≤ full → (has y j && noneIn (atomsIn p) (column w j)) ≡ (has (bitAnd y (full - v)) j && noneIn (atomsIn (without p)) (column w j))
   none-turn l k =
       let N : ℕ → Bool = λ i. not (has (column w j) i) in
-      let R : Bool = every N (atomsIn (without p a)) in
+      let R : Bool = every N (atomsIn (without p)) in
       ap (λ (b : Bool). has y j && b) (none-every (atomsIn p) (column w j) ∙ atoms-step p h z a e N ∙ ap (λ (b : Bool). not b && R) word-has)
       ∙ ap (λ (b : Bool). has y j && (b && R)) (sym (has-not (v) j k l))
       ∙ sym (and-assoc (has y j) (has (full - v) j) R) ∙ ap (λ (b : Bool). b && R) (sym (has-and y (full - v) j))
-      ∙ ap (λ (b : Bool). has (bitAnd y (full - v)) j && b) (sym (none-every (atomsIn (without p a)) (column w j)))
+      ∙ ap (λ (b : Bool). has (bitAnd y (full - v)) j && b) (sym (none-every (atomsIn (without p)) (column w j)))
 
 -- no atom is left
 no-atoms : atomsIn 0 ≡ []

@@ -37,7 +37,7 @@ pub fn raise(raised: u16, w: &mut [u64; 16])
     while rest != 0 {
         let a = atoms::lowest(rest);
         w[a as usize] = 0xFFFF_FFFF_FFFF_FFFF;
-        rest = rest & !(1 << a);
+        rest = rest & (rest - 1);
     }
 }
 
@@ -69,7 +69,7 @@ pub fn all_in(all: u16, w: &[u64; 16], x: u64) -> u64
     while rest != 0 {
         let a = atoms::lowest(rest);
         y = y & at(w, a);
-        rest = rest & !(1 << a);
+        rest = rest & (rest - 1);
     }
     y
 }
@@ -84,7 +84,7 @@ pub fn none_in(none: u16, w: &[u64; 16], x: u64) -> u64
     while rest != 0 {
         let a = atoms::lowest(rest);
         y = y & !at(w, a);
-        rest = rest & !(1 << a);
+        rest = rest & (rest - 1);
     }
     y
 }

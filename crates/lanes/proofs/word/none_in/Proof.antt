@@ -28,16 +28,8 @@ at-requires c κs =
     let h = c .before .before .loop in
     lowest-small (h .rest) (h .inv .0) (c .before .loop-test .taken) _ (c .lowest .ensures)
 
-cast-rest : tie.Need-cast-rest Inv-loop μ-loop
-cast-rest c =
-    let h = c .before .before .before .loop in
-    let k = lowest-small (h .rest) (h .inv .0) (c .before .before .loop-test .taken) _ (c .before .lowest .ensures) in
-    omega arith
-
-shl-rest : tie.Need-shl-rest Inv-loop μ-loop
-shl-rest c =
-    let h = c .before .before .before .loop in
-    lowest-small (h .rest) (h .inv .0) (c .before .before .loop-test .taken) _ (c .before .lowest .ensures)
+sub-rest : tie.Need-sub-rest Inv-loop μ-loop
+sub-rest c = omega arith
 
 loop-less : tie.Need-loop-less Inv-loop μ-loop
 loop-less c =
@@ -68,8 +60,7 @@ none-in-spec =
     loop-holds
     lowest-requires
     at-requires
-    cast-rest
-    shl-rest
+    sub-rest
     loop-less
     loop-again
     returns)

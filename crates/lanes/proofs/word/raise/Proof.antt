@@ -38,16 +38,8 @@ element-write-w c =
     let h = c .before .before .loop in
     lowest-small (h .rest) (h .inv .0) (c .before .loop-test .taken) _ (c .lowest .ensures)
 
-cast-rest : tie.Need-cast-rest Inv-loop μ-loop
-cast-rest c =
-    let h = c .before .before .loop in
-    let k = lowest-small (h .rest) (h .inv .0) (c .before .loop-test .taken) _ (c .lowest .ensures) in
-    omega arith
-
-shl-rest : tie.Need-shl-rest Inv-loop μ-loop
-shl-rest c =
-    let h = c .before .before .loop in
-    lowest-small (h .rest) (h .inv .0) (c .before .loop-test .taken) _ (c .lowest .ensures)
+sub-rest : tie.Need-sub-rest Inv-loop μ-loop
+sub-rest c = omega arith
 
 loop-less : tie.Need-loop-less Inv-loop μ-loop
 loop-less c =
@@ -81,8 +73,7 @@ raise-spec =
     cast-w
     mul-w
     element-write-w
-    cast-rest
-    shl-rest
+    sub-rest
     loop-less
     loop-again
     returns)
