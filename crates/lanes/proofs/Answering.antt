@@ -20,7 +20,7 @@ use Rattle.lpod.specs.Answer.{answer}
 use Rattle.lpod.proofs.Lists.{every-append, every-made}
 use Rattle.lpod.proofs.Between.{row-raised, fact-satisfied}
 use Rattle.words.specs.Coded.{rulesIn, rulesWith, pairsIn, programIn}
-use Rattle.lanes.specs.Pass.{pass, waits}
+use Rattle.lanes.specs.Pass.{pass, waits, grows}
 use Rattle.lanes.proofs.Words.{full, has-not}
 use Rattle.lanes.proofs.Closure.{Come, come-next, come-whole, come-unwaited, come-same, come-end}
 
@@ -94,17 +94,13 @@ module _ (P : List Rule) (f I : ℕ) (x ok : Bool) (e : ok ≡ (x && satisfiesAl
         go true q t z = come-whole P f I w (subst (Come P f I (n + 1)) (sym made) (come-next P f I w (m t))) (eqb→eq d I (true-yes q))
         go false q t z = g t (sym (ap (λ (b : Bool). not b && v) q) ∙ z)
 
-    -- since no row waited
-    pub right-unwaited : (v : Bool) → v ≡ waits P I c → ((ok && not (eqb d I)) && v) ≡ false → Right (ok && eqb d I)
-    right-unwaited v ev = settled v (λ t z. come-unwaited P f I w (m t) (false-no (sym ev ∙ z)) ∙ sym made)
-
-    -- since the pass added nothing
-    pub right-same : (v : Bool) → v ≡ not (eqb c d) → ((ok && not (eqb d I)) && v) ≡ false → Right (ok && eqb d I)
-    right-same v ev = settled v (λ t z. come-same P f I w (m t) (eqb→eq c d (undo (eqb c d) (sym ev ∙ z)) ∙ made) ∙ sym made)
+    -- since no row waited, or the pass added nothing
+    pub right-stopped : (v g : Bool) → v ≡ waits P I c → g ≡ grows P I c → ((ok && not (eqb d I)) && (v && g)) ≡ false → Right (ok && eqb d I)
+    right-stopped v g ev eg = settled (v && g) (λ t z. go v g ev eg z t)
       where
-        undo : (b : Bool) → not b ≡ false → T b
-        undo true z = tt
-        undo false z = absurd (false-no z tt)
+        go : (v g : Bool) → v ≡ waits P I c → g ≡ grows P I c → (v && g) ≡ false → T x → L ≡ d
+        go true g ev eg z t = come-same P f I w (m t) (sym eg ∙ z) ∙ sym made
+        go false g ev eg z t = come-unwaited P f I w (m t) (false-no (sym ev)) ∙ sym made
 
 -- ---- the same in words, as the code tells it: `there` are the lanes that are there, v the set of lane j as the words have it
 module _ (P : List Rule) (f I j : ℕ) (l : j < 64) (x ok there : ℕ) (e : has ok j ≡ (has x j && satisfiesAll I P)) (c d v : ℕ) (k : there ≤ full) (et : has there j ≡ eqb d v) (ev : v ≡ I) where
@@ -117,17 +113,15 @@ module _ (P : List Rule) (f I j : ℕ) (l : j < 64) (x ok there : ℕ) (e : has 
   told : (has ok j && eqb d I) ≡ (has x j && (satisfiesAll I P && eqb (least (reduct (P ++ raised f) I)) I)) → Told
   told q = has-and ok there j ∙ ap (λ (b : Bool). has ok j && b) there-is ∙ q
 
-  -- no lane that is in and not there is one of u
-  none-open : (u : ℕ) → bitAnd (bitAnd ok (full - there)) u ≡ 0 → ((has ok j && not (eqb d I)) && has u j) ≡ false
-  none-open u z = rw (← there-is, ← has-not there j k l, ← has-and ok (full - there) j, ← has-and (bitAnd ok (full - there)) u j, z) (has-zero j)
+  -- no lane that is in and not there is one of u and one of v
+  none-open : (u v : ℕ) → bitAnd (bitAnd (bitAnd ok (full - there)) u) v ≡ 0 → ((has ok j && not (eqb d I)) && (has u j && has v j)) ≡ false
+  none-open u v z =
+      rw (← there-is, ← has-not there j k l, ← has-and ok (full - there) j, ← and-assoc (has (bitAnd ok (full - there)) j) (has u j) (has v j), ← has-and (bitAnd ok (full - there)) u j, ← has-and (bitAnd (bitAnd ok (full - there)) u) v j, z)
+      (has-zero j)
 
   module _ (w : f < 2 ^ 16) (n : ℕ) (m : T (has x j) → Come P f I n c) where
-    pub stop-unwaited : d ≡ pass P I c → (wait : ℕ) → has wait j ≡ waits P I c → bitAnd (bitAnd ok (full - there)) wait ≡ 0 → Told
-    stop-unwaited made wait ew z = told (right-unwaited P f I (has x j) (has ok j) e w n c d m made (has wait j) ew (none-open wait z))
-
-    pub stop-same : d ≡ pass P I c → (q : ℕ) → q ≤ full → has q j ≡ eqb c d → bitAnd (bitAnd ok (full - there)) (full - q) ≡ 0 → Told
-    stop-same made q kq eq z =
-        told (right-same P f I (has x j) (has ok j) e w n c d m made (has (full - q) j) (has-not q j kq l ∙ ap not eq) (none-open (full - q) z))
+    pub stop : d ≡ pass P I c → (wait grew : ℕ) → has wait j ≡ waits P I c → has grew j ≡ grows P I c → bitAnd (bitAnd (bitAnd ok (full - there)) wait) grew ≡ 0 → Told
+    stop made wait grew ew eg z = told (right-stopped P f I (has x j) (has ok j) e w n c d m made (has wait j) (has grew j) ew eg (none-open wait grew z))
 
     -- after sixteen passes
     pub stop-end : d ≡ c → I < 2 ^ 16 → 16 ≤ n → Told

@@ -2,7 +2,7 @@
 -- stays inside every closed set, and what a pass leaves as it was is closed. Sixteen passes are enough, since each but the last adds an atom of the
 -- set; and one pass is enough where no row had to wait. Assumes nothing.
 use mathlib.Core.Path.{_≡_, refl, sym, ap, _∙_, subst}
-use mathlib.Core.Bool.{Bool, true, false, _&&_, not, cond}
+use mathlib.Core.Bool.{Bool, true, false, _&&_, _||_, not, cond}
 use mathlib.Core.Logic.{_⊎_, inl, inr, ⊎-elim}
 use mathlib.Core.List.{List, [], _∷_, _++_, List·Memᴰ, List·Memᴰ·append-cases, Memᴰ·append-left, Memᴰ·append-right}
 use Prim.Native.Nat.{ℕ, _+_, _^_, _≤_, _<_}
@@ -12,7 +12,7 @@ use lib.Bits.{bitAnd, bitOr}
 use lib.Count.{ones-le}
 use lib.Dec.{T}
 use Rattle.atoms.specs.Atoms.{has, insert, Inside, howMany}
-use Rattle.atoms.proofs.Truth.{and-l, or-l, or-r, or-cases, both}
+use Rattle.atoms.proofs.Truth.{and-l, or-l, or-r, or-cases, both, true-yes, false-no}
 use Rattle.atoms.proofs.Bits.{has-and, has-or, in-insert, at-insert, of-insert, inside-both, inside-le}
 use Rattle.atoms.proofs.Count.{many-more}
 use Rattle.lpod.specs.Lists.{gather}
@@ -24,13 +24,22 @@ use Rattle.lpod.proofs.LeastClosed.{all-mono, fire-keeps, fire-adds, fire-insid
 use Rattle.lpod.proofs.FirstAtom.{firstIn, ifs, row-first, row-of}
 use Rattle.lpod.proofs.Firing.{fire-rules}
 use Rattle.lpod.proofs.ReductIsHereThere.{self-closed}
-use Rattle.lanes.specs.Pass.{put, passRow, pass, waits}
+use Rattle.lanes.specs.Pass.{put, passRow, pass, waits, adds, rowAdds, grows}
 
 -- ---- one row
 pub put-none : (hs : List ℕ) (I c : ℕ) → put hs I false c ≡ c
 unfolding put
 put-none [] I c = refl
 put-none (h ∷ hs) I c = put-none hs I c
+
+pub adds-none : (hs : List ℕ) (I c : ℕ) → adds hs I false c ≡ false
+unfolding adds
+adds-none [] I c = refl
+adds-none (h ∷ hs) I c = adds-none hs I c
+
+-- an atom that is there goes in for nothing
+there : (c h : ℕ) → T (has c h) → insert c h ≡ c
+there c h u = inside-both (insert c h) c (λ i x. ⊎-elim (λ y. y) (λ p. subst (λ (n : ℕ). T (has c n)) (sym p) u) (of-insert c h i x)) (in-insert c h)
 
 -- the first head atom in I goes in where the body holds: this is what the row's rule of the reduct does
 put-fires : (hs b : List ℕ) (I s c : ℕ) → put hs I (allIn b s) c ≡ fire (ifs (firstIn hs I) b) s c
@@ -94,18 +103,38 @@ module _ (I : ℕ) where
       (λ n. pass-adds P (passRow r I c) (row-within r c f) d n (all-mono (d .body) c (passRow r I c) (row-keeps r c f) t))
       (List·Memᴰ·append-cases (reductRow r I) m)
 
+-- ---- a pass in which nothing goes in leaves what is reached
+put-same : (hs : List ℕ) (I : ℕ) (t : Bool) (c : ℕ) → adds hs I t c ≡ false → put hs I t c ≡ c
+unfolding put adds
+put-same [] I t c e = refl
+put-same (h ∷ hs) I t c e = go (has I h) t (has c h) refl e (put-same hs I)
+  where
+    go : (m t b : Bool) → has c h ≡ b → (((t && m) && not b) || adds hs I (t && not m) (cond (t && m) (insert c h) c)) ≡ false
+        → ((t : Bool) (c : ℕ) → adds hs I t c ≡ false → put hs I t c ≡ c) → put hs I (t && not m) (cond (t && m) (insert c h) c) ≡ c
+    go true true true q e ih = put-none hs I (insert c h) ∙ there c h (true-yes q)
+    go true true false q e ih = absurd (false-no e tt)
+    go true false b q e ih = put-none hs I c
+    go false true b q e ih = ih true c e
+    go false false b q e ih = put-none hs I c
+
+pub pass-same : (P : List Rule) (I c : ℕ) → grows P I c ≡ false → pass P I c ≡ c
+unfolding pass passRow grows rowAdds
+pass-same [] I c e = refl
+pass-same (r ∷ P) I c e = go _ _ e (put-same (r .head) I (bodyHolds r I && allIn (r .pos) c) c) (pass-same P I (passRow r I c))
+  where
+    go : (a g : Bool) → (a || g) ≡ false → (a ≡ false → passRow r I c ≡ c) → (g ≡ false → pass P I (passRow r I c) ≡ passRow r I c) → pass P I (passRow r I c) ≡ c
+    go true g e f k = absurd (false-no e tt)
+    go false g e f k = k e ∙ f refl
+
 -- ---- where no row waits, each whose body holds has its atom in, and a further pass adds nothing
 put-again : (hs : List ℕ) (I : ℕ) (t : Bool) (c e : ℕ) → Inside (put hs I true c) e → put hs I t e ≡ e
 unfolding put
 put-again [] I t c e f = refl
 put-again (h ∷ hs) I t c e f = go (has I h) t f (put-again hs I)
   where
-    there : T (has e h) → insert e h ≡ e
-    there u = inside-both (insert e h) e (λ i x. ⊎-elim (λ y. y) (λ p. subst (λ (n : ℕ). T (has e n)) (sym p) u) (of-insert e h i x)) (in-insert e h)
-
     go : (m t : Bool) → Inside (put hs I (not m) (cond m (insert c h) c)) e → ((t : Bool) (c e : ℕ) → Inside (put hs I true c) e → put hs I t e ≡ e)
         → put hs I (t && not m) (cond (t && m) (insert e h) e) ≡ e
-    go true true f ih = put-none hs I (insert e h) ∙ there (f h (subst (λ (x : ℕ). T (has x h)) (sym (put-none hs I (insert c h))) (at-insert c h)))
+    go true true f ih = put-none hs I (insert e h) ∙ there e h (f h (subst (λ (x : ℕ). T (has x h)) (sym (put-none hs I (insert c h))) (at-insert c h)))
     go true false f ih = put-none hs I e
     go false true f ih = ih true c e f
     go false false f ih = put-none hs I e
@@ -176,8 +205,8 @@ module _ (P : List Rule) (f I : ℕ) where
     come-start g = record { flags = λ i h. h; small = λ k q. flags-closed k q g; far = inr (omega arith) }
 
     module _ {n c : ℕ} (m : Come n c) where
-      grows : (pass P I c ≡ c → ⊥) → howMany c < howMany (pass P I c)
-      grows d = many-more c (pass P I c) (pass-keeps I P c (come-within m)) (λ e. d (sym e))
+      more : (pass P I c ≡ c → ⊥) → howMany c < howMany (pass P I c)
+      more d = many-more c (pass P I c) (pass-keeps I P c (come-within m)) (λ e. d (sym e))
 
       pub come-next : Come (n + 1) (pass P I c)
       come-next =
@@ -189,7 +218,7 @@ module _ (P : List Rule) (f I : ℕ) where
         where
           go : Dec (pass P I c ≡ c) → (pass P I c ≡ c) ⊎ (n ≤ howMany c) → (pass P I (pass P I c) ≡ pass P I c) ⊎ (n + 1 ≤ howMany (pass P I c))
           go (yes e) l = inl (ap (pass P I) e)
-          go (no d) l = ⊎-elim (λ e. absurd (d e)) (λ l. inr (let g = grows d in omega arith)) l
+          go (no d) l = ⊎-elim (λ e. absurd (d e)) (λ l. inr (let g = more d in omega arith)) l
 
       -- a pass that would add nothing: this is the least set
       pub come-least : pass P I c ≡ c → least D ≡ c
@@ -210,7 +239,7 @@ module _ (P : List Rule) (f I : ℕ) where
           go : Dec (pass P I c ≡ c) → n ≤ howMany c → least D ≡ c
           go (yes e) h = come-least e
           go (no d) h =
-              let g = grows d in
+              let g = more d in
               let k = inside-le (pass P I c) I (pass-inside I P c I (self-closed P I) (come-within m) (come-within m)) in
               absurd (omega (arith, ones-le 16 (pass P I c) (omega arith)))
 
@@ -222,5 +251,5 @@ module _ (P : List Rule) (f I : ℕ) where
       pub come-unwaited : (T (waits P I c) → ⊥) → least D ≡ pass P I c
       come-unwaited g = come-least (come-next m) (pass-again P I c (pass P I c) (come-within m) g (λ i h. h))
 
-      pub come-same : c ≡ pass P I c → least D ≡ pass P I c
-      come-same e = come-least m (sym e) ∙ e
+      pub come-same : grows P I c ≡ false → least D ≡ pass P I c
+      come-same e = let s = pass-same P I c e in come-least m s ∙ sym s

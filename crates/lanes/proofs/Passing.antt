@@ -13,10 +13,10 @@ use Rattle.lpod.specs.Satisfied.{allIn, someIn, noneIn, bodyHolds, satisfies, s
 use Rattle.words.specs.Coded.{ruleIn, headLength, headDigits, digits}
 use Rattle.words.proofs.Places.{digits-length}
 use Rattle.lanes.specs.Lanes.{column}
-use Rattle.lanes.specs.Pass.{put, passRow, pass, waits}
+use Rattle.lanes.specs.Pass.{put, passRow, pass, waits, adds, rowAdds, grows}
 use Rattle.lanes.proofs.Words.{full, has-not, has-full, has-column}
 use Rattle.lanes.proofs.Columns.{put-column}
-use Rattle.lanes.proofs.Closure.{put-none}
+use Rattle.lanes.proofs.Closure.{put-none, adds-none}
 
 -- ---- the digits of a row's head
 pub head-start : (row k : ℕ) → k ≡ length (ruleIn row .head) → ruleIn row .head ≡ digits k (row / 1099511627776)
@@ -54,6 +54,30 @@ module _ {hs rest : List ℕ} {a : ℕ} (e : hs ≡ a ∷ rest) (w : List ℕ) (
       go true false false = refl
       go false f y = refl
 
+  -- z is the word of a in what is reached, and g the lanes in which something went in before
+  pub adds-turn : (f g z : ℕ) (cur out : List ℕ) → a < length cur → z ≡ getD cur a 0 → z ≤ full → out ≡ set cur a (bitOr (getD cur a 0) (bitAnd (bitAnd x f) y))
+      → (has g j || adds hs (column w j) (has x j && has f j) (column cur j))
+      ≡ (has (bitOr g (bitAnd (bitAnd (bitAnd x f) y) (full - z))) j || adds rest (column w j) (has (bitAnd x (full - y)) j && has f j) (column out j))
+  unfolding adds
+  adds-turn f g z cur out k ez kz eo =
+      rw (e, word-is, after, eo, put-column cur a (bitAnd (bitAnd x f) y) j k ((has x j && has f j) && has y j) new, has-or g (bitAnd (bitAnd (bitAnd x f) y) (full - z)) j, has-and (bitAnd (bitAnd x f) y) (full - z) j, has-not z j kz l, new, reached)
+      (ap (λ (q : Bool). has g j || ((((has x j && has f j) && has y j) && not (has z j)) || adds rest (column w j) q (cond ((has x j && has f j) && has y j) (insert (column cur j) a) (column cur j))))
+      (go (has x j) (has f j) (has y j))
+      ∙ sym (or-assoc (has g j) (((has x j && has f j) && has y j) && not (has z j)) _))
+    where
+      new : has (bitAnd (bitAnd x f) y) j ≡ ((has x j && has f j) && has y j)
+      new = has-and (bitAnd x f) y j ∙ ap (λ (q : Bool). q && has y j) (has-and x f j)
+
+      reached : has (column cur j) a ≡ has z j
+      reached = has-column cur j a ∙ ap (λ (v : ℕ). has v j) (sym ez)
+
+      go : (x f y : Bool) → ((x && f) && not y) ≡ ((x && not y) && f)
+      go true true true = refl
+      go true true false = refl
+      go true false true = refl
+      go true false false = refl
+      go false f y = refl
+
 pub head-end : {hs : List ℕ} → hs ≡ [] → (I : ℕ) (t : Bool) → (t && noneIn hs I) ≡ t
 unfolding noneIn someIn some
 head-end e I t = rw e (and-true t)
@@ -61,6 +85,10 @@ head-end e I t = rw e (and-true t)
 pub put-end : {hs : List ℕ} → hs ≡ [] → (I : ℕ) (t : Bool) (c : ℕ) → put hs I t c ≡ c
 unfolding put
 put-end e I t c = rw e
+
+pub adds-end : {hs : List ℕ} → hs ≡ [] → (I : ℕ) (t g : Bool) (c : ℕ) → (g || adds hs I t c) ≡ g
+unfolding adds
+adds-end e I t g c = rw e (or-false g)
 
 -- ---- one row: x are the lanes in which its body holds
 module _ (r : Rule) (I c x j : ℕ) (ex : has x j ≡ bodyHolds r I) where
@@ -80,6 +108,10 @@ module _ (r : Rule) (I c x j : ℕ) (ex : has x j ≡ bodyHolds r I) where
     unfolding passRow
     idle-fire = rw out (sym (put-none (r .head) I c))
 
+    pub idle-grow : has 0 j ≡ rowAdds r I c
+    unfolding rowAdds
+    idle-grow = rw out (has-zero j ∙ sym (adds-none (r .head) I c))
+
   module _ (l : j < 64) (f : ℕ) (kf : f ≤ full) (ef : has f j ≡ (has x j && allIn (r .pos) c)) where
     pub row-wait : has (bitAnd x (full - f)) j ≡ (bodyHolds r I && not (allIn (r .pos) c))
     row-wait = has-and x (full - f) j ∙ rw (has-not f j kf l, ef, ex) (go (bodyHolds r I) (allIn (r .pos) c))
@@ -93,6 +125,10 @@ module _ (r : Rule) (I c x j : ℕ) (ex : has x j ≡ bodyHolds r I) where
       pub row-fire : (d : ℕ) → d ≡ put (r .head) v (has x j && has f j) c → d ≡ passRow r I c
       unfolding passRow
       row-fire d e = e ∙ rw (ev, ef, ex, and-self-left (bodyHolds r I) (allIn (r .pos) c))
+
+      pub row-grow : (g : Bool) → g ≡ adds (r .head) v (has x j && has f j) c → g ≡ rowAdds r I c
+      unfolding rowAdds
+      row-grow g e = e ∙ rw (ev, ef, ex, and-self-left (bodyHolds r I) (allIn (r .pos) c))
 
       pub row-ok : (n : ℕ) → n ≤ full → has n j ≡ (has x j && noneIn (r .head) v) → has (full - n) j ≡ satisfies I r
       unfolding satisfies noneIn
@@ -114,6 +150,10 @@ module _ {P Q : List Rule} {r : Rule} (e : P ≡ r ∷ Q) (I j : ℕ) where
     unfolding waits
     wait-turn wait x ex = rw (e, has-or wait x j, ex, ed) (sym (or-assoc (has wait j) (bodyHolds r I && not (allIn (r .pos) c)) (waits Q I (passRow r I c))))
 
+    pub grow-turn : (grew x : ℕ) → has x j ≡ rowAdds r I c → (has grew j || grows P I c) ≡ (has (bitOr grew x) j || grows Q I d)
+    unfolding grows
+    grow-turn grew x ex = rw (e, has-or grew x j, ex, ed) (sym (or-assoc (has grew j) (rowAdds r I c) (grows Q I (passRow r I c))))
+
     pub pass-turn : pass P I c ≡ pass Q I d
     unfolding pass
     pass-turn = rw (e, ed)
@@ -126,6 +166,10 @@ module _ {P : List Rule} (e : P ≡ []) (I : ℕ) where
   pub wait-end : (t : Bool) (c : ℕ) → (t || waits P I c) ≡ t
   unfolding waits
   wait-end t c = rw e (or-false t)
+
+  pub grow-end : (t : Bool) (c : ℕ) → (t || grows P I c) ≡ t
+  unfolding grows
+  grow-end t c = rw e (or-false t)
 
   pub pass-end : (c : ℕ) → pass P I c ≡ c
   unfolding pass

@@ -24,3 +24,15 @@ pass (r ∷ P) I c = pass P I (passRow r I c)
 unfoldable pub waits : List Rule → ℕ → ℕ → Bool
 waits [] I c = false
 waits (r ∷ P) I c = (bodyHolds r I && not (allIn (r .pos) c)) || waits P I (passRow r I c)
+
+-- something goes into c that was not there: of one row, and in a pass
+unfoldable pub adds : List ℕ → ℕ → Bool → ℕ → Bool
+adds [] I t c = false
+adds (h ∷ hs) I t c = ((t && has I h) && not (has c h)) || adds hs I (t && not (has I h)) (cond (t && has I h) (insert c h) c)
+
+unfoldable pub rowAdds : Rule → ℕ → ℕ → Bool
+rowAdds r I c = adds (r .head) I (bodyHolds r I && allIn (r .pos) c) c
+
+unfoldable pub grows : List Rule → ℕ → ℕ → Bool
+grows [] I c = false
+grows (r ∷ P) I c = rowAdds r I c || grows P I (passRow r I c)

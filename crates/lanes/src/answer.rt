@@ -71,14 +71,13 @@ fn no_pair(pairs: &[u16], w: &[u64; 16], x: u64) -> u64
 }
 
 // The lanes of x whose set satisfies every row and is the least set closed under its reduct. A lane is done where its set is reached. Where it is
-// not, nothing more can come once no row waits there, or a pass has added nothing.
+// not, nothing more can come once no row waits there, or a pass has added nothing there.
 fn supported(rows: &[u64], lows: &[u64], flags: u16, b: u16, w: &[u64; 16], x: u64) -> u64
     requires { ⌜ (b < 1024) × means.Block b (now w) × means.LowBodies (now rows) (now lows) × (length (now rows) ≤ length (now lows)) × ((j : ℕ) → j < 64 → T (has x j) → T (inside flags (64 * b + j))) ⌝ }
     ensures { λ r. ⌜ ((j : ℕ) → j < 64 → has r j ≡ (has x j && (satisfiesAll (64 * b + j) (rulesIn (now (rows .entry))) && eqb (least (reduct (rulesWith (now (rows .entry)) flags) (64 * b + j))) (64 * b + j)))) ⌝ }
 {
     let mut ok = x;
     let mut cur = flag_words(flags);
-    let mut old = cur;
     let mut left: u8 = 16;
     while 0 < left {
         let p = close::pass(rows, lows, b, w, &mut cur);
@@ -88,13 +87,9 @@ fn supported(rows: &[u64], lows: &[u64], flags: u16, b: u16, w: &[u64; 16], x: u
         }
         let there = same(&cur, w);
         let open = ok & !there;
-        if open & p.wait == 0 {
+        if open & p.wait & p.grew == 0 {
             return ok & there;
         }
-        if open & !same(&old, &cur) == 0 {
-            return ok & there;
-        }
-        old = cur;
         left -= 1;
     }
     ok & same(&cur, w)

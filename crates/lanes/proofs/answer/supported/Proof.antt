@@ -11,17 +11,17 @@ use Rattle.atoms.proofs.Bits.{has-zero, test-inside}
 use Rattle.words.specs.Coded.{rulesIn, rulesWith}
 use Rattle.lanes.specs.Lanes.{column}
 use Rattle.lanes.proofs.Closure.{Come, come-start, come-later}
-use Rattle.lanes.proofs.Answering.{Kept, kept-start, kept-turn, kept-later, kept-end, right-none, stop-unwaited, stop-same, stop-end}
+use Rattle.lanes.proofs.Answering.{Kept, kept-start, kept-turn, kept-later, kept-end, right-none, stop, stop-end}
 use Rattle.lanes.proofs.answer.supported.Statement.{statement}
 use Rattle.lanes.proofs.answer.supported.Tie as tie
 
 abbrev Inv-loop : tie.InvT-loop
-Inv-loop rows lows flags b w x ok₀ cur₀ old₀ left₀ ok cur old left =
+Inv-loop rows lows flags b w x ok₀ cur₀ left₀ ok cur left =
     (length cur ≡ 16) × (left ≤ 16) × ((j : ℕ) → j < 64 → Kept (rulesIn rows) (64 * b + j) (has x j) left (has ok j))
-    × ((j : ℕ) → j < 64 → T (has x j) → Come (rulesIn rows) flags (64 * b + j) (16 - left) (column cur j)) × (old ≡ cur)
+    × ((j : ℕ) → j < 64 → T (has x j) → Come (rulesIn rows) flags (64 * b + j) (16 - left) (column cur j))
 
 abbrev μ-loop : tie.MeasureT-loop
-μ-loop rows lows flags b w x ok₀ cur₀ old₀ left₀ ok cur old left = left
+μ-loop rows lows flags b w x ok₀ cur₀ left₀ ok cur left = left
 
 flag-words-requires : tie.Need-flag-words-requires Inv-loop μ-loop
 flag-words-requires c κs = tt
@@ -35,7 +35,6 @@ loop-holds c =
       omega arith,
       λ j l. kept-start P (64 * s .args .b + j) (has (s .args .x) j),
       λ j l t. subst (Come P f (64 * s .args .b + j) 0) (sym (c .flag-words .ensures .1 j l)) (come-start P f (64 * s .args .b + j) (omega arith) (test-inside f (64 * s .args .b + j) (s .pre .4 j l t))),
-      refl,
     )
 
 pass-requires : tie.Need-pass-requires Inv-loop μ-loop
@@ -59,38 +58,18 @@ same-requires c κs = (c .before .before .before .pass .ensures .0, c .before .b
 returns-2 : tie.Need-returns-2 Inv-loop μ-loop
 unfolding rulesWith
 returns-2 c =
-    let g = c .before .before .before .before .before .before in
+    let g = c .before .before .before .before .before .before .before in
     let h = g .before .before .before .loop in
     let s = g .before .before .before .before .before .before .before in
     let P = rulesIn (now (s .args .rows)) in
     let I : ℕ → ℕ = λ j. 64 * s .args .b + j in
     let r = g .pass in
-    let t = c .before .before .same in
+    let t = c .before .before .before .same in
     λ j l.
-    stop-unwaited P (s .args .flags) (I j) j l (s .args .x) (bitAnd (h .ok) (r .result .ok)) (t .result)
+    stop P (s .args .flags) (I j) j l (s .args .x) (bitAnd (h .ok) (r .result .ok)) (t .result)
     (kept-turn P (I j) (has (s .args .x) j) (h .left) (h .ok) (r .result .ok) j (h .inv .2 j l) (r .ensures .1 j l))
     (column (h .cur) j) _ (column (now (s .args .w)) j) (omega (arith, t .ok)) (t .ensures j l) (s .pre .1 .1 j l)
-    (omega arith) (16 - h .left) (h .inv .3 j l) (r .ensures .3 j l) (r .result .wait) (r .ensures .2 j l) (c .if2 .taken)
-
-same-requires-2 : tie.Need-same-requires-2 Inv-loop μ-loop
-same-requires-2 c κs = let g = c .before .before .before .before .before .before .before .before in (let h = g .before .before .before .loop in ap length (h .inv .4) ∙ h .inv .0, g .pass .ensures .0)
-
-returns-3 : tie.Need-returns-3 Inv-loop μ-loop
-unfolding rulesWith
-returns-3 c =
-    let g = c .before .before .before .before .before .before .before .before .before .before in
-    let h = g .before .before .before .loop in
-    let s = g .before .before .before .before .before .before .before in
-    let P = rulesIn (now (s .args .rows)) in
-    let I : ℕ → ℕ = λ j. 64 * s .args .b + j in
-    let r = g .pass in
-    let t = c .before .before .before .before .before .before .same in
-    let q = c .before .same2 in
-    λ j l.
-    stop-same P (s .args .flags) (I j) j l (s .args .x) (bitAnd (h .ok) (r .result .ok)) (t .result)
-    (kept-turn P (I j) (has (s .args .x) j) (h .left) (h .ok) (r .result .ok) j (h .inv .2 j l) (r .ensures .1 j l))
-    (column (h .cur) j) _ (column (now (s .args .w)) j) (omega (arith, t .ok)) (t .ensures j l) (s .pre .1 .1 j l)
-    (omega arith) (16 - h .left) (h .inv .3 j l) (r .ensures .3 j l) (q .result) (omega (arith, q .ok)) (rw (h .inv .4) at (q .ensures j l)) (c .if3 .taken)
+    (omega arith) (16 - h .left) (h .inv .3 j l) (r .ensures .3 j l) (r .result .wait) (r .result .grew) (r .ensures .2 j l) (r .ensures .4 j l) (c .if2 .taken)
 
 sub-left : tie.Need-sub-left Inv-loop μ-loop
 sub-left c = omega arith
@@ -100,7 +79,7 @@ loop-less c = omega arith
 
 loop-again : tie.Need-loop-again Inv-loop μ-loop
 loop-again c =
-    let g = c .before .before .before .before .before .before .before .before .before .before in
+    let g = c .before .before .before .before .before .before .before in
     let h = g .before .before .before .loop in
     let s = g .before .before .before .before .before .before .before in
     let P = rulesIn (now (s .args .rows)) in
@@ -110,20 +89,19 @@ loop-again c =
       omega arith,
       λ j l. kept-later P (I j) (has (s .args .x) j) (h .left - 1) (omega arith) _ (kept-turn P (I j) (has (s .args .x) j) (h .left) (h .ok) (r .result .ok) j (h .inv .2 j l) (r .ensures .1 j l)),
       λ j l t. come-later P (s .args .flags) (I j) (omega arith) (16 - h .left) (16 - (h .left - 1)) (column (h .cur) j) _ (omega arith) (r .ensures .3 j l) (h .inv .3 j l t),
-      refl,
     )
 
-same-requires-3 : tie.Need-same-requires-3 Inv-loop μ-loop
-same-requires-3 c κs = (c .before .before .loop .inv .0, c .before .before .before .before .before .before .pre .1 .0)
+same-requires-2 : tie.Need-same-requires-2 Inv-loop μ-loop
+same-requires-2 c κs = (c .before .before .loop .inv .0, c .before .before .before .before .before .before .pre .1 .0)
 
-returns-4 : tie.Need-returns-4 Inv-loop μ-loop
+returns-3 : tie.Need-returns-3 Inv-loop μ-loop
 unfolding rulesWith
-returns-4 c =
+returns-3 c =
     let h = c .before .before .before .loop in
     let s = c .before .before .before .before .before .before .before in
     let P = rulesIn (now (s .args .rows)) in
     let I : ℕ → ℕ = λ j. 64 * s .args .b + j in
-    let t = c .same3 in
+    let t = c .same2 in
     λ j l.
     stop-end P (s .args .flags) (I j) j l (s .args .x) (h .ok) (t .result) (kept-end P (I j) (has (s .args .x) j) (h .left) (omega arith) (has (h .ok) j) (h .inv .2 j l))
     (column (h .cur) j) (column (h .cur) j) (column (now (s .args .w)) j) (omega (arith, t .ok)) (t .ensures j l) (s .pre .1 .1 j l)
@@ -141,10 +119,8 @@ supported-spec =
     returns
     same-requires
     returns-2
-    same-requires-2
-    returns-3
     sub-left
     loop-less
     loop-again
-    same-requires-3
-    returns-4)
+    same-requires-2
+    returns-3)
