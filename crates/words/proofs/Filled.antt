@@ -2,7 +2,8 @@
 -- library's law of the store at the end of what is done. Assumes nothing.
 use mathlib.Core.Path.{_≡_, sym, ap, _∙_}
 use mathlib.Core.List.{List, [], _∷_, _++_, append-nil}
-use Prim.Native.Nat.{ℕ, _+_, _-_, _<_}
+use Prim.Native.Nat.{ℕ, zero, suc, _+_, _-_, _<_}
+use native.Mathlib.Nat.{sub-zero, zero-sub, suc-sub-suc}
 use native.Mathlib.Numerals.{add-one}
 use native.Mathlib.Omega.{arith}
 use lib.ListN.{length, set, take, drop, replicate}
@@ -16,10 +17,16 @@ filled-more words all l rest n w h e el =
 pub filled-all : (words all l : List ℕ) (n m : ℕ) → take n words ++ l ≡ all → l ≡ [] → m ≡ n → take m words ≡ all
 filled-all words all l n m e el em = rw em (rw (← append-nil (take n words)) (ap (λ (r : List ℕ). take n words ++ r) (sym el) ∙ e))
 
--- and what is not stored yet is 0
-pub blank-more : (words : List ℕ) (n w k m : ℕ) → drop n words ≡ replicate k 0 → k ≡ m + 1 → drop (n + 1) (set words n w) ≡ replicate m 0
-blank-more words n w k m e ek =
-    drop-set-lt (n + 1) words n w (omega arith) ∙ sym (drop-drop 1 n words) ∙ ap (drop 1) (e ∙ ap (λ (j : ℕ). replicate j 0) (ek ∙ add-one m))
+-- and what is not stored yet is as it was
+pub kept-more : (words before : List ℕ) (n w : ℕ) → drop n words ≡ drop n before → drop (n + 1) (set words n w) ≡ drop (n + 1) before
+kept-more words before n w e =
+    drop-set-lt (n + 1) words n w (omega arith) ∙ rw (← drop-drop 1 n words, e, drop-drop 1 n before)
 
-pub blank-rest : (words : List ℕ) (n m most : ℕ) → drop n words ≡ replicate (most - n) 0 → m ≡ n → drop m words ≡ replicate (most - m) 0
-blank-rest words n m most e em = rw em e
+pub kept-rest : (words before : List ℕ) (n m : ℕ) → drop n words ≡ drop n before → m ≡ n → drop m words ≡ drop m before
+kept-rest words before n m e em = rw em e
+
+-- which is 0 in a new array
+pub blank : (m most : ℕ) → drop {A = ℕ} m (replicate most 0) ≡ replicate (most - m) 0
+blank zero most = rw (sub-zero most)
+blank (suc m) zero = rw (zero-sub (suc m))
+blank (suc m) (suc most) = rw (suc-sub-suc most m) (blank m most)

@@ -75,20 +75,29 @@ fn row_word(page: &[u8], row: rows::Row) -> u64
     pos + 65536 * neg + 4294967296 * (count as u64) + 1099511627776 * head
 }
 
+// The word of each row, in row order, at the start of the lent array; the words after these stay as they were.
+pub fn fill_rows(page: &[u8], words: &mut [u64; 32])
+    ensures { λ r. ⌜ (length (now (words .exit)) ≡ 32) × (take (means.rowTotal (now (page .entry))) (now (words .exit)) ≡ means.rowWords (now (page .entry))) × (drop (means.rowTotal (now (page .entry))) (now (words .exit)) ≡ drop (means.rowTotal (now (page .entry))) (now (words .entry))) ⌝ }
+{
+    // As a slice the array is known to have 32 words.
+    let out: &mut [u64] = words;
+    let total = row_total(page);
+    let mut place = rows::first_place(page);
+    let mut n: usize = 0;
+    while n < total {
+        let row = rows::row_from(page, n as u16, place);
+        out[n] = row_word(page, row);
+        place = rows::place_after(row);
+        n += 1;
+    }
+}
+
 // The word of each row, in row order; the words after these are 0.
 pub fn row_words(page: &[u8]) -> [u64; 32]
     ensures { λ r. ⌜ (length r ≡ 32) × (take (means.rowTotal (now (page .entry))) r ≡ means.rowWords (now (page .entry))) × (drop (means.rowTotal (now (page .entry))) r ≡ replicate (32 - means.rowTotal (now (page .entry))) 0) ⌝ }
 {
-    let total = row_total(page);
-    let mut place = rows::first_place(page);
     let mut words = [0u64; 32];
-    let mut n: usize = 0;
-    while n < total {
-        let row = rows::row_from(page, n as u16, place);
-        words[n] = row_word(page, row);
-        place = rows::place_after(row);
-        n += 1;
-    }
+    fill_rows(page, &mut words);
     words
 }
 

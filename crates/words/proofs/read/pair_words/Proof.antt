@@ -6,19 +6,19 @@ use Prim.Native.Nat.{ℕ, _+_, _*_, _-_, _^_, _≤_}
 use native.Mathlib.Nat.{sub-zero}
 use native.Mathlib.Omega.{arith}
 use denote.Ref.{now}
-use lib.ListN.{length, take, length-set, drop, replicate}
+use lib.ListN.{length, take, drop, length-set}
 use Rattle.page.specs.Fields.{wordAt}
 use Rattle.page.specs.Program.{pairsFrom}
 use Rattle.page.proofs.Scan.{pairs-step, pairs-none}
 use Rattle.words.specs.Coded.{pairWord, pairTotal, pairWords}
-use Rattle.words.proofs.Filled.{filled-more, filled-all, blank-more, blank-rest}
+use Rattle.words.proofs.Filled.{filled-more, filled-all, kept-more, kept-rest, blank}
 use Rattle.words.proofs.read.pair_words.Statement.{statement}
 use Rattle.words.proofs.read.pair_words.Tie as tie
 
 abbrev Inv-loop : tie.InvT-loop
 Inv-loop page many at₀ words₀ n₀ at words n =
     (n ≤ many) × (at + 2 * (many - n) ≤ 2 ^ 33) × (length words ≡ 8) × (take n words ++ map pairWord (pairsFrom page at (many - n)) ≡ pairWords page)
-    × (drop n words ≡ replicate (8 - n) 0)
+    × (drop n words ≡ drop n words₀)
 
 abbrev μ-loop : tie.MeasureT-loop
 μ-loop page many at₀ words₀ n₀ at words n = many - n
@@ -69,7 +69,7 @@ loop-again c =
       length-set (h .words) (h .n) (w .result) ∙ h .inv .2,
       filled-more (h .words) _ _ _ (h .n) (w .result) (omega (arith, h .inv .2)) (h .inv .3)
           (to-come _ (h .at) (many - h .n) (many - (h .n + 1)) (w .result) (omega arith) (w .ensures)),
-      blank-more (h .words) (h .n) (w .result) (8 - h .n) (8 - (h .n + 1)) (h .inv .4) (omega (arith, c .before .before .before .before .pair-total .ensures .1)),
+      kept-more (h .words) _ (h .n) (w .result) (h .inv .4),
     )
 
 returns : tie.Need-returns Inv-loop μ-loop
@@ -80,7 +80,7 @@ returns c =
     let e : pairTotal page ≡ h .n = omega (arith, many .ensures .0) in (
       h .inv .2,
       filled-all (h .words) _ _ (h .n) _ (h .inv .3) (ap (map pairWord) (pairs-none page (h .at) (many .result - h .n) (omega arith))) e,
-      blank-rest (h .words) (h .n) _ 8 (h .inv .4) e,
+      kept-rest (h .words) _ (h .n) _ (h .inv .4) e ∙ blank (pairTotal page) 8,
     )
 
 pub pair-words-spec : {M : Type 1} → statement M
