@@ -64,9 +64,19 @@ module _ {A : Type 0} (p : A → Bool) (l rest : List A) (x : A) (s : l ≡ x �
   unfolding every
   every-stop t = ap (every p) s ∙ rw t
 
+  -- the same where code goes on past one that does not pass: b is the answer for those before x, c the answer for x
+  pub every-both : (b c : Bool) → c ≡ p x → (b && every p l) ≡ ((b && c) && every p rest)
+  unfolding every
+  every-both true c e = ap (every p) s ∙ rw e
+  every-both false c e = refl
+
 pub every-none : {A : Type 0} (p : A → Bool) (l : List A) → l ≡ [] → every p l ≡ true
 unfolding every
 every-none p l e = rw e
+
+pub every-done : {A : Type 0} (p : A → Bool) (l : List A) → l ≡ [] → (b : Bool) → (b && every p l) ≡ b
+every-done p l e true = every-none p l e
+every-done p l e false = refl
 
 -- past the end of the page all literals are 0, and one is below n where all are
 module _ (page : List ℕ) (a : ℕ) where

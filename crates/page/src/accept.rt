@@ -26,13 +26,15 @@ pub fn page_no(page: &[u8]) -> u16
     if header::misplaced(page) {
         return 4;
     }
-    if content::bad_counts(page) {
+    // One walk over the rows answers 5 and 7; each is given in its turn.
+    let seen = content::rows_seen(page);
+    if seen.misfit {
         return 5;
     }
     if content::atoms_out(page) {
         return 6;
     }
-    if content::unsorted(page) {
+    if seen.unsorted {
         return 7;
     }
     if content::bad_pairs(page) {

@@ -23,22 +23,65 @@ fn row_fits(row: rows::Row, last: u8) -> bool
     head & (pos & (neg & spare))
 }
 
-// 5: a row that does not fit, or rows whose literals do not end where the pairs start.
-pub fn bad_counts(page: &[u8]) -> bool
-    ensures { λ r. ⌜ r ≡ refusals.badCounts (now (page .entry)) ⌝ }
+// The n bytes from place `from` on, each `step` after the one before, rise strictly. No header can state a place that is
+// as far as the bounds here and below.
+fn rises_by(page: &[u8], step: u8, from: usize, n: u16) -> bool
+    requires { ⌜ from ≤ 6000000000 ⌝ }
+    ensures { λ r. ⌜ r ≡ refusals.rises (scan.spaced (now (page .entry)) step from n) ⌝ }
+{
+    let by = step as usize;
+    let mut i = from;
+    let mut left = n;
+    while 1 < left {
+        if fields::byte_at(page, i + by) <= fields::byte_at(page, i) {
+            return false;
+        }
+        i += by;
+        left -= 1;
+    }
+    true
+}
+
+// Both bodies of a row rise.
+fn bodies_rise(page: &[u8], row: rows::Row) -> bool
+    ensures { λ b. ⌜ b ≡ refusals.bodiesRise (ruleOf (now (page .entry)) row) ⌝ }
+{
+    let pos_at = row.place as usize + row.head as usize;
+    let neg_at = pos_at + row.pos as usize;
+    let first = rises_by(page, 1, pos_at, row.pos as u16);
+    let second = rises_by(page, 1, neg_at, row.neg as u16);
+    first & second
+}
+
+// What one walk over the rows sees of conditions 5 and 7.
+pub struct Seen {
+    pub misfit: bool,
+    pub unsorted: bool,
+}
+
+// 5: a row that does not fit, or rows whose literals do not end where the pairs start. 7: a body list that does not rise
+// strictly. Both are asked of every row, so one walk answers both.
+pub fn rows_seen(page: &[u8]) -> Seen
+    ensures { λ r. ⌜ r .misfit ≡ refusals.badCounts (now (page .entry)) ⌝ }
+    ensures { λ r. ⌜ r .unsorted ≡ refusals.unsorted (now (page .entry)) ⌝ }
 {
     let total = fields::row_count(page);
     let mut place = rows::first_place(page);
+    let mut fit = true;
+    let mut rise = true;
     let mut r: u16 = 0;
     while r < total {
         let row = rows::row_from(page, r, place);
-        if !row_fits(row, fields::spare_byte(page, r)) {
-            return true;
-        }
+        fit = fit & row_fits(row, fields::spare_byte(page, r));
+        rise = rise & bodies_rise(page, row);
         place = rows::place_after(row);
         r += 1;
     }
-    place != fields::pairs_at(page)
+    let end = place == fields::pairs_at(page);
+    Seen {
+        misfit: !(fit & end),
+        unsorted: !rise,
+    }
 }
 
 // The n bytes from place `from` on are all below the number of atoms. Past the end all are 0, so one answer serves them.
@@ -78,54 +121,6 @@ pub fn atoms_out(page: &[u8]) -> bool
         atoms,
     );
     !(literals & pairs)
-}
-
-// The n bytes from place `from` on, each `step` after the one before, rise strictly. No header can state a place that is
-// as far as the bounds here and below.
-fn rises_by(page: &[u8], step: u8, from: usize, n: u16) -> bool
-    requires { ⌜ from ≤ 6000000000 ⌝ }
-    ensures { λ r. ⌜ r ≡ refusals.rises (scan.spaced (now (page .entry)) step from n) ⌝ }
-{
-    let by = step as usize;
-    let mut i = from;
-    let mut left = n;
-    while 1 < left {
-        if fields::byte_at(page, i + by) <= fields::byte_at(page, i) {
-            return false;
-        }
-        i += by;
-        left -= 1;
-    }
-    true
-}
-
-// Both bodies of a row rise.
-fn bodies_rise(page: &[u8], row: rows::Row) -> bool
-    ensures { λ b. ⌜ b ≡ refusals.bodiesRise (ruleOf (now (page .entry)) row) ⌝ }
-{
-    let pos_at = row.place as usize + row.head as usize;
-    let neg_at = pos_at + row.pos as usize;
-    let first = rises_by(page, 1, pos_at, row.pos as u16);
-    let second = rises_by(page, 1, neg_at, row.neg as u16);
-    first & second
-}
-
-// 7: a body list that does not rise strictly.
-pub fn unsorted(page: &[u8]) -> bool
-    ensures { λ r. ⌜ r ≡ refusals.unsorted (now (page .entry)) ⌝ }
-{
-    let total = fields::row_count(page);
-    let mut place = rows::first_place(page);
-    let mut r: u16 = 0;
-    while r < total {
-        let row = rows::row_from(page, r, place);
-        if !bodies_rise(page, row) {
-            return true;
-        }
-        place = rows::place_after(row);
-        r += 1;
-    }
-    false
 }
 
 // The n pairs from place `from` on share no atom with the pair of one and other.

@@ -63,16 +63,16 @@ returns-4 : tie.Need-returns-4
 unfolding pageNo pageRefusals
 returns-4 c = sym (passed-3 (c .before .before) ∙ first-here 4 _ _ _ (c .before .misplaced .ensures) (c .if4 .taken))
 
-bad-counts-requires : tie.Need-bad-counts-requires
-bad-counts-requires c κs = search needs
+rows-seen-requires : tie.Need-rows-seen-requires
+rows-seen-requires c κs = search needs
 
 passed-5 : (c : tie.Else5) → Left 5 (c .before .before .before .before .before .before .before .before .before .before .before)
 unfolding pageNo pageRefusals
-passed-5 c = passed-4 (c .before .before) ∙ first-next 5 _ _ _ (c .before .bad-counts .ensures) (c .if5 .left)
+passed-5 c = passed-4 (c .before .before) ∙ first-next 5 _ _ _ (c .before .rows-seen .ensures .0) (c .if5 .left)
 
 returns-5 : tie.Need-returns-5
 unfolding pageNo pageRefusals
-returns-5 c = sym (passed-4 (c .before .before) ∙ first-here 5 _ _ _ (c .before .bad-counts .ensures) (c .if5 .taken))
+returns-5 c = sym (passed-4 (c .before .before) ∙ first-here 5 _ _ _ (c .before .rows-seen .ensures .0) (c .if5 .taken))
 
 atoms-out-requires : tie.Need-atoms-out-requires
 atoms-out-requires c κs = search needs
@@ -85,22 +85,19 @@ returns-6 : tie.Need-returns-6
 unfolding pageNo pageRefusals
 returns-6 c = sym (passed-5 (c .before .before) ∙ first-here 6 _ _ _ (c .before .atoms-out .ensures) (c .if6 .taken))
 
-unsorted-requires : tie.Need-unsorted-requires
-unsorted-requires c κs = search needs
-
-passed-7 : (c : tie.Else7) → Left 7 (c .before .before .before .before .before .before .before .before .before .before .before .before .before .before .before)
+passed-7 : (c : tie.Else7) → Left 7 (c .before .before .before .before .before .before .before .before .before .before .before .before .before .before)
 unfolding pageNo pageRefusals
-passed-7 c = passed-6 (c .before .before) ∙ first-next 7 _ _ _ (c .before .unsorted .ensures) (c .if7 .left)
+passed-7 c = passed-6 (c .before) ∙ first-next 7 _ _ _ (c .before .before .before .before .rows-seen .ensures .1) (c .if7 .left)
 
 returns-7 : tie.Need-returns-7
 unfolding pageNo pageRefusals
-returns-7 c = sym (passed-6 (c .before .before) ∙ first-here 7 _ _ _ (c .before .unsorted .ensures) (c .if7 .taken))
+returns-7 c = sym (passed-6 (c .before) ∙ first-here 7 _ _ _ (c .before .before .before .before .rows-seen .ensures .1) (c .if7 .taken))
 
 bad-pairs-requires : tie.Need-bad-pairs-requires
 bad-pairs-requires c κs = search needs
 
 passed-8 : (c : tie.Else8)
-    → Left 8 (c .before .before .before .before .before .before .before .before .before .before .before .before .before .before .before .before .before)
+    → Left 8 (c .before .before .before .before .before .before .before .before .before .before .before .before .before .before .before .before)
 unfolding pageNo pageRefusals
 passed-8 c = passed-7 (c .before .before) ∙ first-next 8 _ _ _ (c .before .bad-pairs .ensures) (c .if8 .left)
 
@@ -124,11 +121,10 @@ page-no-spec =
     returns-3
     misplaced-requires
     returns-4
-    bad-counts-requires
+    rows-seen-requires
     returns-5
     atoms-out-requires
     returns-6
-    unsorted-requires
     returns-7
     bad-pairs-requires
     returns-8
