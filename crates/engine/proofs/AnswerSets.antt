@@ -79,7 +79,7 @@ unfolding preferred rules programIn
 no-pairs rows pairs flags = refl
 
 -- ---- in the words of the code: what is made of an accepted page, one thing after the other, and lent to the lists
-module _ (page : List ℕ) (flags k : ℕ) (w : flags < 2 ^ 16) (e : k ≡ flagNo page flags) (z : k ≡ 0)
+module _ (page : List ℕ) (flags : ℕ) (w : flags < 2 ^ 16) (h : flagNo page flags ≡ 0)
     (n : ℕ) (rows : List ℕ) (en : (n ≡ rowTotal page) × (n ≤ 32)) (er : (length rows ≡ 32) × (take (rowTotal page) rows ≡ rowWords page))
     (q : ℕ) (pairs : List ℕ) (eq : q ≡ pairTotal page) (ep : take (pairTotal page) pairs ≡ pairWords page) where
   made : Program
@@ -92,10 +92,10 @@ module _ (page : List ℕ) (flags k : ℕ) (w : flags < 2 ^ 16) (e : k ≡ flagN
   pub made-sets : (which : Which) (best : Bool) → best ≡ isBest which → wanted best (programOf (take n rows) (take q pairs) flags) ≡ setsOf which (program page flags)
   unfolding programIn made
   made-sets which best b =
-      let h = flag-page page flags (sym e ∙ z) in
+      let g = flag-page page flags h in
       ap (λ (b : Bool). wanted b made) b ∙ ap (wanted (isBest which)) whole
-      ∙ same-wanted page flags w (sym e ∙ z) (programIn (take n rows) (take q pairs) flags) refl (lent-answer page h n rows (en .0) (er .1) q pairs eq ep flags)
-      (no-pairs (take n rows) (take q pairs) flags ∙ lent-preferred page h n rows (en .0) (er .1) flags) which
+      ∙ same-wanted page flags w h (programIn (take n rows) (take q pairs) flags) refl (lent-answer page g n rows (en .0) (er .1) q pairs eq ep flags)
+      (no-pairs (take n rows) (take q pairs) flags ∙ lent-preferred page g n rows (en .0) (er .1) flags) which
 
   pub made-pick : pick (programOf (take n rows) (take q pairs) flags) ≡ pick (program page flags)
   unfolding pick wanted setsOf isBest

@@ -32,7 +32,6 @@ use Rattle.routes.specs.declared.split.Split.{Split}
 use Rattle.words.specs.Coded as coded
 use Rattle.lpod.specs.Best as bests
 use Rattle.lanes.specs.Sets.{FoundSays, programOf, numberOf}
-use Rattle.lanes.specs.declared.sets.Found.{Found}
 use Rattle.engine.specs.Calls.{SetsSay, ListSays, BestSays, PickSays}
 use Rattle.engine.specs.Rank.{PreferredSays}
 use Rattle.engine.specs.Degrees.{DegreesSays}
@@ -229,7 +228,7 @@ pub is-here-there : (words pairs : List ℕ) (flags set : ℕ) (x y : Bool) → 
 is-here-there words pairs flags set x y = one-answer
 
 -- lanes::sets: the lists and the pick of rows and pairs in words
-pub sets-of-words : (l out : List ℕ) (x y : Found) (after later : List ℕ) → FoundSays l out x after → FoundSays l out y later → (x ≡ y) × (after ≡ later)
+pub sets-of-words : (l out : List ℕ) (x y : ℕ) (after later : List ℕ) → FoundSays l out x after → FoundSays l out y later → (x ≡ y) × (after ≡ later)
 sets-of-words l out x y after later p q = (one-answer (p .0) (q .0), one-answer (p .1) (q .1))
 
 pub pick-of-words : (words pairs : List ℕ) (flags x y : ℕ) → x ≡ numberOf (bests.pick (programOf words pairs flags)) → y ≡ numberOf (bests.pick (programOf words pairs flags)) → x ≡ y

@@ -2,6 +2,8 @@
 // that a slice that is too short is left as it was.
 ghost use mathlib.Core.Path.{_≡_};
 ghost use Rattle.page.specs.Program.{program};
+ghost use Rattle.page.specs.Refusals.{flagNo};
+ghost use Rattle.lanes.specs.Sets.{FoundSays};
 ghost use Rattle.engine.specs.Lists.{isBest};
 ghost use Rattle.engine.specs.Calls as means;
 use lanes::sets;
@@ -30,6 +32,20 @@ fn is_best(which: Which) -> bool
     }
 }
 
+// How many sets an accepted page and flag word have. Where there is room for all they stand at the start of the lent slice; else it is left as it was.
+fn found(page: &[u8], flags: u16, which: Which, out: &mut [u16]) -> u32
+    requires { ⌜ flagNo (now page) flags ≡ 0 ⌝ }
+    ensures { λ r. ⌜ FoundSays (means.setsOf which (program (now (page .entry)) flags)) (now (out .entry)) r (now (out .exit)) ⌝ }
+{
+    let n = read::row_total(page);
+    let mut rows = [0u64; 32];
+    read::fill_rows(page, &mut rows);
+    let q = read::pair_total(page);
+    let pairs = read::pair_words(page);
+    let best = is_best(which);
+    sets::sets(&rows[..n], &pairs[..q], flags, best, &mut *out)
+}
+
 // Refusals 1 to 9, then 11 for a slice that is too short; else the sets.
 pub fn sets(page: &[u8], flags: u16, which: Which, out: &mut [u16]) -> Listed
     ensures { λ r. ⌜ means.SetsSay (means.setsOf which (program (now (page .entry)) flags)) (now (page .entry)) flags (now (out .entry)) r (now (out .exit)) ⌝ }
@@ -38,19 +54,12 @@ pub fn sets(page: &[u8], flags: u16, which: Which, out: &mut [u16]) -> Listed
     if no != 0 {
         return Listed { no, count: 0 };
     }
-    let n = read::row_total(page);
-    let rows = read::row_words(page);
-    let q = read::pair_total(page);
-    let pairs = read::pair_words(page);
-    let best = is_best(which);
-    let found = sets::sets(&rows[..n], &pairs[..q], flags, best, &mut *out);
-    if !found.fits {
+    let room = out.len();
+    let count = found(page, flags, which, &mut *out);
+    if room < count as usize {
         return Listed { no: 11, count: 0 };
     }
-    Listed {
-        no: 0,
-        count: found.count,
-    }
+    Listed { no: 0, count }
 }
 
 // All answer sets.

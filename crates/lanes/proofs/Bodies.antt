@@ -267,3 +267,11 @@ low-more rows lows n y k f g i l = go (ℕ-discrete i n)
     go : Dec (i ≡ n) → LowBody (getD rows i 0) (getD (set lows n y) i 0)
     go (yes e) = subst (λ (x : ℕ). LowBody (getD rows x 0) (getD (set lows n y) x 0)) (sym e) (subst (λ (x : ℕ). LowBody (getD rows n 0) x) (sym (getD-set-same lows n y 0 k)) g)
     go (no e) = subst (λ (x : ℕ). LowBody (getD rows i 0) x) (sym (getD-set-other lows n i y 0 e)) (f i (omega arith))
+
+-- a row and its low part more, in two lists that are filled together
+pub low-both : (rows lows : List ℕ) (n x y : ℕ) → n < length rows → n < length lows → ((i : ℕ) → i < n → LowBody (getD rows i 0) (getD lows i 0)) → LowBody x y
+    → (i : ℕ) → i < n + 1 → LowBody (getD (set rows n x) i 0) (getD (set lows n y) i 0)
+low-both rows lows n x y h k f g =
+    low-more (set rows n x) lows n y k
+    (λ i l. subst (λ (r : ℕ). LowBody r (getD lows i 0)) (sym (getD-set-other rows n i x 0 (λ e. omega arith))) (f i l))
+    (subst (λ (r : ℕ). LowBody r y) (sym (getD-set-same rows n x 0 h)) g)

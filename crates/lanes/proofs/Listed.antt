@@ -18,20 +18,19 @@ use Rattle.lpod.specs.Best.{firstOf, bestSets}
 use Rattle.lanes.specs.Entries.{over}
 use Rattle.lanes.specs.Seek.{nextFrom, allFrom}
 use Rattle.lanes.specs.Marks.{marked, Within}
-use Rattle.lanes.specs.Sets.{found, left, FoundSays, wanted, numberOf, Marked}
-use Rattle.lanes.specs.declared.sets.Found.{Found}
+use Rattle.lanes.specs.Sets.{left, FoundSays, wanted, numberOf, Marked}
 use Rattle.lanes.proofs.Seek.{next-passes, next-le, all-first, all-here, all-past}
 
 module _ (sets out : List ℕ) (c : ℕ) (e : c ≡ length sets) where
-  pub found-short : length out < length sets → FoundSays sets out (record { fits = false; count = c }) out
-  unfolding found left
-  found-short h = (rw (lt-ltb (length out) (length sets) h, e), rw (lt-ltb (length out) (length sets) h))
+  pub found-short : length out < length sets → FoundSays sets out c out
+  unfolding left
+  found-short h = (e, rw (lt-ltb (length out) (length sets) h))
 
-  pub found-stored : length sets ≤ length out → (after : List ℕ) → after ≡ over sets out → FoundSays sets out (record { fits = true; count = c }) after
-  unfolding found left
-  found-stored h after ea = (rw (le-ltb (length out) (length sets) h, e), ea ∙ rw (le-ltb (length out) (length sets) h))
+  pub found-stored : length sets ≤ length out → (after : List ℕ) → after ≡ over sets out → FoundSays sets out c after
+  unfolding left
+  found-stored h after ea = (e, ea ∙ rw (le-ltb (length out) (length sets) h))
 
-pub found-same : (out : List ℕ) {l m after : List ℕ} {r : Found} → l ≡ m → FoundSays l out r after → FoundSays m out r after
+pub found-same : (out : List ℕ) {l m after : List ℕ} {r : ℕ} → l ≡ m → FoundSays l out r after → FoundSays m out r after
 found-same out {l} {m} {after} {r} e s = subst (λ (x : List ℕ). FoundSays x out r after) e s
 
 -- the least that passes is the first of all that do

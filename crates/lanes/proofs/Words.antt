@@ -131,12 +131,21 @@ both-parts b j a l = go (decLt a 6)
         let h : 6 ≤ a = omega arith in
         ap (λ (x : ℕ). has x a || has j a) upper ∙ rw (high-ten b 0 a (omega arith) h, has-high 6 j a l h) (or-false (has b (a - 6)) ∙ sym (high-ten b j a l h))
 
-pub block-made : (w : List ℕ) (b : ℕ) → b < 1024 → length w ≡ 16 → ((a j : ℕ) → a < 16 → j < 64 → has (getD w a 0) j ≡ (has (64 * b) a || has (getD laneWords a 0) j)) → Block b w
-block-made w b h k f = (
+-- z are words of block 0
+made : (w z : List ℕ) (b : ℕ) → b < 1024 → length w ≡ 16 → ((a j : ℕ) → a < 16 → j < 64 → has (getD z a 0) j ≡ has j a)
+    → ((a j : ℕ) → a < 16 → j < 64 → has (getD w a 0) j ≡ (has (64 * b) a || has (getD z a 0) j)) → Block b w
+made w z b h k g f = (
   k,
   λ j l. has-ext 16 (column w j) (64 * b + j) (subst (λ (n : ℕ). column w j < 2 ^ n) k (column-lt w j)) (omega arith)
-      (λ a m. has-column w j a ∙ f a j m l ∙ ap (λ (c : Bool). has (64 * b) a || c) (low-words a j m l) ∙ both-parts b j a l),
+      (λ a m. has-column w j a ∙ f a j m l ∙ ap (λ (c : Bool). has (64 * b) a || c) (g a j m l) ∙ both-parts b j a l),
 )
+
+pub block-made : (w z : List ℕ) (b : ℕ) → b < 1024 → Block 0 z → length w ≡ 16
+    → ((a j : ℕ) → a < 16 → j < 64 → has (getD w a 0) j ≡ (has (64 * b) a || has (getD z a 0) j)) → Block b w
+block-made w z b h o k = made w z b h k (λ a j m l. sym (has-column z j a) ∙ ap (λ (x : ℕ). has x a) (o .1 j l ∙ omega arith))
+
+pub block-zero : Block 0 laneWords
+block-zero = made laneWords laneWords 0 (omega arith) refl low-words (λ a j m l. ap (λ (c : Bool). c || has (getD laneWords a 0) j) (sym (has-zero a)))
 
 -- the same set in every lane
 pub same-made : (w : List ℕ) (s : ℕ) → s < 65536 → length w ≡ 16 → ((a j : ℕ) → a < 16 → j < 64 → has (getD w a 0) j ≡ (has s a || has (getD (replicate 16 0) a 0) j))

@@ -1,6 +1,6 @@
 -- What the calls on rows and pairs in words give: the answer sets or the best of them in lent memory, and the pick.
 use mathlib.Core.Path.{_≡_}
-use mathlib.Core.Bool.{Bool, not, cond}
+use mathlib.Core.Bool.{Bool, cond}
 use mathlib.Core.List.{List}
 use mathlib.Core.Option.{Option, some, none}
 use Prim.Native.Nat.{ℕ, _+_, _/_, _<_}
@@ -17,7 +17,6 @@ use Rattle.lanes.specs.Seek.{allFrom}
 use Rattle.lanes.specs.Marks.{marked, Within}
 use Rattle.lanes.specs.Rank.{over, ranks}
 use Rattle.lanes.specs.Search.{soughtBest}
-use Rattle.lanes.specs.declared.sets.Found.{Found}
 
 -- a page has at most 32 rows: of more words the first 32 count
 unfoldable pub programOf : List ℕ → List ℕ → ℕ → Program
@@ -27,15 +26,12 @@ programOf rows pairs flags = programIn (take 32 rows) pairs flags
 unfoldable pub wanted : Bool → Program → List ℕ
 wanted best p = cond best (bestSets p) (answerSets p)
 
--- there is room for them in the lent slice or not, and how many there are; where there is room they stand at its start, else it is as it was
-unfoldable pub found : List ℕ → List ℕ → Found
-found sets out = record { fits = not (ltb (length out) (length sets)); count = length sets }
-
+-- how many there are; where the lent slice has room for all they stand at its start, else it is as it was
 unfoldable pub left : List ℕ → List ℕ → List ℕ
 left sets out = cond (ltb (length out) (length sets)) out (entries.over sets out)
 
-abbrev pub FoundSays : List ℕ → List ℕ → Found → List ℕ → Type 0
-FoundSays sets out r after = (r ≡ found sets out) × (after ≡ left sets out)
+abbrev pub FoundSays : List ℕ → List ℕ → ℕ → List ℕ → Type 0
+FoundSays sets out r after = (r ≡ length sets) × (after ≡ left sets out)
 
 -- a set, or 65,536, which is none
 unfoldable pub numberOf : Option ℕ → ℕ

@@ -95,12 +95,21 @@ fn supported(rows: &[u64], lows: &[u64], flags: u16, b: u16, w: &[u64; 16], x: u
     ok & same(&cur, w)
 }
 
-// The lanes of x whose set is an answer set.
-pub fn answers(rows: &[u64], lows: &[u64], pairs: &[u16], flags: u16, b: u16, x: u64) -> u64
-    requires { ⌜ (b < 1024) × means.LowBodies (now rows) (now lows) × (length (now rows) ≤ length (now lows)) × ((j : ℕ) → j < 64 → T (has x j) → T (inside flags (64 * b + j))) ⌝ }
+// The lanes of x whose set is an answer set. The words of block 0 are given.
+pub fn answers(
+    rows: &[u64],
+    lows: &[u64],
+    zero: &[u64; 16],
+    pairs: &[u16],
+    flags: u16,
+    b: u16,
+    x: u64,
+) -> u64
+    requires { ⌜ (b < 1024) × means.LowBodies (now rows) (now lows) × (length (now rows) ≤ length (now lows)) × means.Block 0 (now zero) × ((j : ℕ) → j < 64 → T (has x j) → T (inside flags (64 * b + j))) ⌝ }
     ensures { λ r. ⌜ ((j : ℕ) → j < 64 → has r j ≡ (has x j && answer (programIn (now (rows .entry)) (now (pairs .entry)) flags) (64 * b + j))) ⌝ }
 {
-    let w = word::block_words(b);
+    let mut w = *zero;
+    word::to_block(b, &mut w);
     let ok = no_pair(pairs, &w, x);
     if ok == 0 {
         return 0;

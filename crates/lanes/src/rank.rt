@@ -60,29 +60,29 @@ pub fn first_rows(grades: &[u8], n: usize) -> u32
     x
 }
 
-// The rows that rank, at the start of an array, and how many they are.
-pub struct Ranked {
-    pub rows: [u64; 32],
-    pub count: usize,
-}
-
-// Of these rows, those with two head atoms or more.
-pub fn ranking(rows: &[u64]) -> Ranked
-    requires { ⌜ length (now rows) ≤ 32 ⌝ }
-    ensures { λ r. ⌜ (r .count ≤ 32) × (length (r .rows) ≡ 32) × (take (r .count) (r .rows) ≡ keep ranks (now (rows .entry))) ⌝ }
+// Those of the rows that have two head atoms or more, at the start of a lent array, the low parts of their bodies in another, and how many they are.
+pub fn ranking(
+    rows: &[u64],
+    lows: &[u64],
+    kept: &mut [u64; 32],
+    bodies: &mut [u64; 32],
+) -> usize
+    requires { ⌜ (length (now rows) ≤ 32) × LowBodies (now rows) (now lows) × (length (now rows) ≤ length (now lows)) × (length (now kept) ≡ 32) × (length (now bodies) ≡ 32) ⌝ }
+    ensures { λ r. ⌜ (r ≤ 32) × (length (now (kept .exit)) ≡ 32) × (length (now (bodies .exit)) ≡ 32) × (take r (now (kept .exit)) ≡ keep ranks (now (rows .entry))) × LowBodies (take r (now (kept .exit))) (now (bodies .exit)) ⌝ }
 {
-    let mut kept = [0u64; 32];
     let mut count: usize = 0;
     let mut n = 0;
     while n < rows.len() {
         let word = rows[n];
+        let low = lows[n];
         if 1 < row::head_count(word) {
             kept[count] = word;
+            bodies[count] = low;
             count += 1;
         }
         n += 1;
     }
-    Ranked { rows: kept, count }
+    count
 }
 
 // The lanes in which the row has this degree, from 1 on.

@@ -23,76 +23,97 @@ use super::rank;
 use super::search;
 use super::word;
 
-// Whether there is room for the sets, and how many there are.
-pub struct Found {
-    pub fits: bool,
-    pub count: u32,
-}
-
-// Counts the marked sets, and stores them where there is room.
-fn listed(marks: &[u64], low: u16, high: u16, out: &mut [u16]) -> Found
+// Counts the marked sets, and stores them where there is room for all.
+fn listed(marks: &[u64], low: u16, high: u16, out: &mut [u16]) -> u32
     requires { ⌜ (length (now marks) ≤ 1024) × Within (now marks) low high × T (inside low high) × (low < length (now marks)) ⌝ }
     ensures { λ r. ⌜ means.FoundSays (allFrom (marked (now (marks .entry))) 0) (now (out .entry)) r (now (out .exit)) ⌝ }
 {
     let count = marks::count(marks, low, high);
     if out.len() < count as usize {
-        return Found { fits: false, count };
+        return count;
     }
     marks::store(marks, low, high, &mut *out);
-    Found { fits: true, count }
+    count
 }
 
 // Of the marked sets only the best by these rows keep their marks.
-fn keep_best(rows: &[u64], low: u16, high: u16, index: &mut [u32], marks: &mut [u64])
-    requires { ⌜ (length (now rows) ≤ 32) × (length (now marks) ≤ 1024) × (length (now marks) ≤ length (now index)) × (low < length (now marks)) × T (inside low high) × Within (now marks) low high ⌝ }
+fn keep_best(
+    rows: &[u64],
+    lows: &[u64],
+    low: u16,
+    high: u16,
+    index: &mut [u32],
+    marks: &mut [u64],
+)
+    requires { ⌜ (length (now rows) ≤ 32) × LowBodies (now rows) (now lows) × (length (now rows) ≤ length (now lows)) × (length (now marks) ≤ 1024) × (length (now marks) ≤ length (now index)) × (low < length (now marks)) × T (inside low high) × Within (now marks) low high ⌝ }
     ensures { λ r. ⌜ (length (now (marks .exit)) ≡ length (now (marks .entry))) × Within (now (marks .exit)) low high × ((s : ℕ) → s < 65536 → marked (now (marks .exit)) s ≡ soughtBest (over (now (rows .entry))) (now (marks .entry)) s) ⌝ }
 {
-    let lows = word::low_bodies(rows);
     let deepest = rank::deepest(rows);
-    search::indexes(rows, &lows, &*marks, low, high, &mut *index);
-    search::keep_best(rows, &lows, deepest, low, high, &*index, &mut *marks);
+    search::indexes(rows, lows, &*marks, low, high, &mut *index);
+    search::keep_best(rows, lows, deepest, low, high, &*index, &mut *marks);
 }
 
 // The least of the marked sets that are best by these rows.
-fn first_best(rows: &[u64], low: u16, high: u16, index: &mut [u32], marks: &mut [u64]) -> u32
-    requires { ⌜ (length (now rows) ≤ 32) × (length (now marks) ≤ 1024) × (length (now marks) ≤ length (now index)) × (low < length (now marks)) × T (inside low high) × Within (now marks) low high ⌝ }
+fn first_best(
+    rows: &[u64],
+    lows: &[u64],
+    low: u16,
+    high: u16,
+    index: &mut [u32],
+    marks: &mut [u64],
+) -> u32
+    requires { ⌜ (length (now rows) ≤ 32) × LowBodies (now rows) (now lows) × (length (now rows) ≤ length (now lows)) × (length (now marks) ≤ 1024) × (length (now marks) ≤ length (now index)) × (low < length (now marks)) × T (inside low high) × Within (now marks) low high ⌝ }
     ensures { λ r. ⌜ r ≡ nextFrom (soughtBest (over (now (rows .entry))) (now (marks .entry))) 0 ⌝ }
 {
-    let lows = word::low_bodies(rows);
     let deepest = rank::deepest(rows);
-    search::indexes(rows, &lows, &*marks, low, high, &mut *index);
-    search::first_best(rows, &lows, deepest, low, high, &*index, &mut *marks)
+    search::indexes(rows, lows, &*marks, low, high, &mut *index);
+    search::first_best(rows, lows, deepest, low, high, &*index, &mut *marks)
 }
 
 // Of the marked sets only the best keep their marks. Rows that do not rank are left out.
-fn keep_best_by(rows: &[u64], low: u16, high: u16, index: &mut [u32], marks: &mut [u64])
-    requires { ⌜ (length (now rows) ≤ 32) × (length (now marks) ≤ 1024) × (length (now marks) ≤ length (now index)) × (low < length (now marks)) × T (inside low high) × Within (now marks) low high ⌝ }
+fn keep_best_by(
+    rows: &[u64],
+    lows: &[u64],
+    low: u16,
+    high: u16,
+    index: &mut [u32],
+    marks: &mut [u64],
+)
+    requires { ⌜ (length (now rows) ≤ 32) × LowBodies (now rows) (now lows) × (length (now rows) ≤ length (now lows)) × (length (now marks) ≤ 1024) × (length (now marks) ≤ length (now index)) × (low < length (now marks)) × T (inside low high) × Within (now marks) low high ⌝ }
     ensures { λ r. ⌜ (length (now (marks .exit)) ≡ length (now (marks .entry))) × Within (now (marks .exit)) low high × ((s : ℕ) → s < 65536 → marked (now (marks .exit)) s ≡ soughtBest (over (keep ranks (now (rows .entry)))) (now (marks .entry)) s) ⌝ }
 {
-    let ranked = rank::ranking(rows);
-    let n = ranked.count;
-    let kept = ranked.rows;
-    keep_best(&kept[..n], low, high, &mut *index, &mut *marks);
+    let mut kept = [0u64; 32];
+    let mut bodies = [0u64; 32];
+    let n = rank::ranking(rows, lows, &mut kept, &mut bodies);
+    keep_best(&kept[..n], &bodies, low, high, &mut *index, &mut *marks);
 }
 
 // The least of the best marked sets. Rows that do not rank are left out.
-fn first_best_by(rows: &[u64], low: u16, high: u16, index: &mut [u32], marks: &mut [u64]) -> u32
-    requires { ⌜ (length (now rows) ≤ 32) × (length (now marks) ≤ 1024) × (length (now marks) ≤ length (now index)) × (low < length (now marks)) × T (inside low high) × Within (now marks) low high ⌝ }
+fn first_best_by(
+    rows: &[u64],
+    lows: &[u64],
+    low: u16,
+    high: u16,
+    index: &mut [u32],
+    marks: &mut [u64],
+) -> u32
+    requires { ⌜ (length (now rows) ≤ 32) × LowBodies (now rows) (now lows) × (length (now rows) ≤ length (now lows)) × (length (now marks) ≤ 1024) × (length (now marks) ≤ length (now index)) × (low < length (now marks)) × T (inside low high) × Within (now marks) low high ⌝ }
     ensures { λ r. ⌜ r ≡ nextFrom (soughtBest (over (keep ranks (now (rows .entry)))) (now (marks .entry))) 0 ⌝ }
 {
-    let ranked = rank::ranking(rows);
-    let n = ranked.count;
-    let kept = ranked.rows;
-    first_best(&kept[..n], low, high, &mut *index, &mut *marks)
+    let mut kept = [0u64; 32];
+    let mut bodies = [0u64; 32];
+    let n = rank::ranking(rows, lows, &mut kept, &mut bodies);
+    first_best(&kept[..n], &bodies, low, high, &mut *index, &mut *marks)
 }
 
-// Marks the answer sets in words that have no mark.
-fn mark(rows: &[u64], pairs: &[u16], flags: u16, top: u16, marks: &mut [u64])
-    requires { ⌜ (length (now rows) ≤ 32) × (top ≡ topOf (rulesIn (now rows)) flags) × (length (now marks) ≡ top / 64 + 1) × ((s : ℕ) → marked (now marks) s ≡ false) ⌝ }
-    ensures { λ r. ⌜ means.Marked (now (rows .entry)) (now (pairs .entry)) flags top (now (marks .exit)) ⌝ }
+// Marks the answer sets in words that have no mark. The low parts of the bodies are left in a lent slice.
+fn mark(rows: &[u64], pairs: &[u16], flags: u16, top: u16, lows: &mut [u64], marks: &mut [u64])
+    requires { ⌜ (length (now rows) ≤ length (now lows)) × (top ≡ topOf (rulesIn (now rows)) flags) × (length (now marks) ≡ top / 64 + 1) × ((s : ℕ) → marked (now marks) s ≡ false) ⌝ }
+    ensures { λ r. ⌜ means.Marked (now (rows .entry)) (now (pairs .entry)) flags top (now (marks .exit)) × LowBodies (now (rows .entry)) (now (lows .exit)) × (length (now (lows .exit)) ≡ length (now (lows .entry))) ⌝ }
 {
-    let lows = word::low_bodies(rows);
-    fill::answers(rows, &lows, pairs, flags, top, &mut *marks);
+    let zero = word::block_words(0);
+    word::low_bodies(rows, &zero, &mut *lows);
+    fill::answers(rows, &*lows, &zero, pairs, flags, top, &mut *marks);
 }
 
 // Marks the answer sets in words that have no mark, keeps the best where only these are wanted, and lists what is marked.
@@ -105,17 +126,18 @@ fn sets_with(
     index: &mut [u32],
     marks: &mut [u64],
     out: &mut [u16],
-) -> Found
+) -> u32
     requires { ⌜ (length (now rows) ≤ 32) × (top ≡ topOf (rulesIn (now rows)) flags) × (length (now marks) ≡ top / 64 + 1) × ((s : ℕ) → marked (now marks) s ≡ false) × (length (now marks) ≤ length (now index)) ⌝ }
     ensures { λ r. ⌜ means.FoundSays (means.wanted best (programIn (now (rows .entry)) (now (pairs .entry)) flags)) (now (out .entry)) r (now (out .exit)) ⌝ }
 {
-    mark(rows, pairs, flags, top, &mut *marks);
+    let mut lows = [0u64; 32];
+    mark(rows, pairs, flags, top, &mut lows, &mut *marks);
     let low = flags / 64;
     let high = top / 64;
     if !best {
         return listed(&*marks, low, high, &mut *out);
     }
-    keep_best_by(rows, low, high, &mut *index, &mut *marks);
+    keep_best_by(rows, &lows, low, high, &mut *index, &mut *marks);
     listed(&*marks, low, high, &mut *out)
 }
 
@@ -131,12 +153,13 @@ fn pick_with(
     requires { ⌜ (length (now rows) ≤ 32) × (top ≡ topOf (rulesIn (now rows)) flags) × (length (now marks) ≡ top / 64 + 1) × ((s : ℕ) → marked (now marks) s ≡ false) × (length (now marks) ≤ length (now index)) ⌝ }
     ensures { λ r. ⌜ r ≡ means.numberOf (bests.pick (programIn (now (rows .entry)) (now (pairs .entry)) flags)) ⌝ }
 {
-    mark(rows, pairs, flags, top, &mut *marks);
-    first_best_by(rows, flags / 64, top / 64, &mut *index, &mut *marks)
+    let mut lows = [0u64; 32];
+    mark(rows, pairs, flags, top, &mut lows, &mut *marks);
+    first_best_by(rows, &lows, flags / 64, top / 64, &mut *index, &mut *marks)
 }
 
 // The sets of at most 32 rows that are wanted. A small page needs few words: no more than four for eight atoms.
-fn sets_to(rows: &[u64], pairs: &[u16], flags: u16, best: bool, out: &mut [u16]) -> Found
+fn sets_to(rows: &[u64], pairs: &[u16], flags: u16, best: bool, out: &mut [u16]) -> u32
     requires { ⌜ length (now rows) ≤ 32 ⌝ }
     ensures { λ r. ⌜ means.FoundSays (means.wanted best (programIn (now (rows .entry)) (now (pairs .entry)) flags)) (now (out .entry)) r (now (out .exit)) ⌝ }
 {
@@ -187,8 +210,9 @@ fn pick_to(rows: &[u64], pairs: &[u16], flags: u16) -> u32
     pick_with(rows, pairs, flags, top, &mut index, &mut all[..words])
 }
 
-// All answer sets, or the best of them, rising, in lent memory where there is room for all. Of more than 32 rows the first 32 count.
-pub fn sets(rows: &[u64], pairs: &[u16], flags: u16, best: bool, out: &mut [u16]) -> Found
+// How many sets there are: all answer sets, or the best of them. Where the lent slice has room for all they stand at its start, rising; else it is
+// left as it was. Of more than 32 rows the first 32 count.
+pub fn sets(rows: &[u64], pairs: &[u16], flags: u16, best: bool, out: &mut [u16]) -> u32
     ensures { λ r. ⌜ means.FoundSays (means.wanted best (means.programOf (now (rows .entry)) (now (pairs .entry)) flags)) (now (out .entry)) r (now (out .exit)) ⌝ }
 {
     if 32 < rows.len() {

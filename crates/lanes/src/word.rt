@@ -41,13 +41,21 @@ pub fn raise(raised: u16, w: &mut [u64; 16])
     }
 }
 
+// From the words of block 0 to those of block b.
+pub fn to_block(b: u16, w: &mut [u64; 16])
+    requires { ⌜ (b < 1024) × means.Block 0 (now w) ⌝ }
+    ensures { λ r. ⌜ means.Block b (now (w .exit)) ⌝ }
+{
+    raise(64 * b, w);
+}
+
 // The words of block b.
 pub fn block_words(b: u16) -> [u64; 16]
     requires { ⌜ b < 1024 ⌝ }
     ensures { λ r. ⌜ means.Block b r ⌝ }
 {
     let mut w = LANES;
-    raise(64 * b, &mut w);
+    to_block(b, &mut w);
     w
 }
 
@@ -89,21 +97,18 @@ pub fn none_in(none: u16, w: &[u64; 16], x: u64) -> u64
     y
 }
 
-// The lanes in which the low part of each row's body holds.
-pub fn low_bodies(rows: &[u64]) -> [u64; 32]
-    requires { ⌜ length (now rows) ≤ 32 ⌝ }
-    ensures { λ r. ⌜ (length r ≡ 32) × means.LowBodies (now (rows .entry)) r ⌝ }
+// The lanes in which the low part of each row's body holds, at the start of the lent slice. The words of block 0 are given.
+pub fn low_bodies(rows: &[u64], zero: &[u64; 16], lows: &mut [u64])
+    requires { ⌜ means.Block 0 (now zero) × (length (now rows) ≤ length (now lows)) ⌝ }
+    ensures { λ r. ⌜ means.LowBodies (now (rows .entry)) (now (lows .exit)) × (length (now (lows .exit)) ≡ length (now (lows .entry))) ⌝ }
 {
-    let w = block_words(0);
-    let mut lows = [0u64; 32];
     let mut n = 0;
     while n < rows.len() {
         let row = rows[n];
-        let x = all_in((row % 64) as u16, &w, 0xFFFF_FFFF_FFFF_FFFF);
-        lows[n] = none_in((row / 65536 % 64) as u16, &w, x);
+        let x = all_in((row % 64) as u16, zero, 0xFFFF_FFFF_FFFF_FFFF);
+        lows[n] = none_in((row / 65536 % 64) as u16, zero, x);
         n += 1;
     }
-    lows
 }
 
 // The lanes of block b in which the row's body holds, from those in which its low part does. The other part is the same in the whole block.

@@ -14,15 +14,15 @@ use Rattle.lanes.proofs.fill.answers.Statement.{statement}
 use Rattle.lanes.proofs.fill.answers.Tie as tie
 
 abbrev Inv-loop : tie.InvT-loop
-Inv-loop rows lows pairs flags top marks₀ low high x b₀ marks b =
+Inv-loop rows lows zero pairs flags top marks₀ low high x b₀ marks b =
     (length marks ≡ top / 64 + 1) × (top < 65536) × (b ≤ 1024) × (b < 1024 → T (inside (flags / 64) b) × T (inside b (top / 64)))
     × FilledTo (answer (programIn rows pairs flags)) flags top b marks
 
 abbrev μ-loop : tie.MeasureT-loop
-μ-loop rows lows pairs flags top marks₀ low high x b₀ marks b = 1024 - b
+μ-loop rows lows zero pairs flags top marks₀ low high x b₀ marks b = 1024 - b
 
 between-requires : tie.Need-between-requires Inv-loop μ-loop
-between-requires c κs = tt
+between-requires c κs = c .before .before .before .before .pre .2
 
 loop-holds : tie.Need-loop-holds Inv-loop μ-loop
 loop-holds c =
@@ -31,11 +31,11 @@ loop-holds c =
     let t = start .fits .top .fits in
     let f = start .fits .flags .fits in
     let q = answer (programIn (now (a .rows)) (now (a .pairs)) (a .flags)) in (
-      start .pre .3,
+      start .pre .4,
       t,
       omega arith,
-      λ l. (inside-self (a .flags / 64), inside-high (a .flags) (a .top) (start .pre .2)),
-      filled-none q (a .flags) (a .top) (now (a .marks)) (start .pre .4),
+      λ l. (inside-self (a .flags / 64), inside-high (a .flags) (a .top) (start .pre .3)),
+      filled-none q (a .flags) (a .top) (now (a .marks)) (start .pre .5),
     )
 
 cast-loop : tie.Need-cast-loop Inv-loop μ-loop
@@ -49,6 +49,7 @@ answers-requires c κs =
       l,
       start .pre .0,
       start .pre .1,
+      start .pre .2,
       lane-flags (start .args .flags) (start .args .top) (h .b) _ (h .inv .3 l .0) (c .before .before .between .ensures),
     )
 
@@ -89,7 +90,7 @@ loop-again c =
     )
 
 same-length : tie.Need-same-length Inv-loop μ-loop
-same-length c = let e = c .before .loop .inv .0 in let f = c .before .before .before .before .before .before .before .pre .3 in omega arith
+same-length c = let e = c .before .loop .inv .0 in let f = c .before .before .before .before .before .before .before .pre .4 in omega arith
 
 returns : tie.Need-returns Inv-loop μ-loop
 returns c =
@@ -97,7 +98,7 @@ returns c =
     let a = start .args in
     let h = c .before .loop in
     let q = answer (programIn (now (a .rows)) (now (a .pairs)) (a .flags)) in (
-      let e = h .inv .0 in let f = start .pre .3 in omega arith,
+      let e = h .inv .0 in let f = start .pre .4 in omega arith,
       filled-all q (a .flags) (a .top) (h .marks) (h .b) (let e = h .inv .0 in let l = c .loop-test .left in omega arith) (h .inv .4),
     )
 

@@ -4,9 +4,6 @@ use borrow.Author.Needs.{needs}
 use Rattle.lanes.proofs.fill.between.Statement.{statement}
 use Rattle.lanes.proofs.fill.between.Tie as tie
 
-block-words-requires : tie.Need-block-words-requires
-block-words-requires c κs = search needs
-
 all-in-requires : tie.Need-all-in-requires
 all-in-requires c κs = search needs
 
@@ -18,9 +15,9 @@ none-in-requires c κs = search needs
 
 returns : tie.Need-returns
 returns c =
-    let w = c .before .before .before .before in
-    between-made (w .before .args .flags) (w .before .args .top) _ (w .block-words .ensures) (c .before .before .all-in .result) (c .none-in .result) (c .before .before .all-in .ensures) (c .none-in .ensures)
+    let s = c .before .before in
+    let x = c .before .all-in in
+    between-made (s .args .flags) (s .args .top) _ (s .pre) (x .result) (c .none-in .result) (x .ensures) (c .none-in .ensures)
 
 pub between-spec : {M : Type 1} → statement M
-between-spec =
-    tie.close (tie.spec block-words-requires all-in-requires sub-none-in none-in-requires returns)
+between-spec = tie.close (tie.spec all-in-requires sub-none-in none-in-requires returns)

@@ -21,11 +21,15 @@ array-share-prefix-kept c = search needs
 slice-aggregate-first-best : tie.Need-slice-aggregate-first-best
 slice-aggregate-first-best c = words-many _ _ (array-share-prefix-kept (c .before))
 
+slice-aggregate-first-best-2 : tie.Need-slice-aggregate-first-best-2
+slice-aggregate-first-best-2 c = search needs
+
 first-best-requires : tie.Need-first-best-requires
 first-best-requires c κs =
-    let p = c .before .before .before .before .before .before .before .before .pre in
-    let r = c .before .before .before .before .ranking .ensures in
-    (words-most _ 32 _ (omega (arith, r .0, r .1)) (r .0), p .1, p .2, p .3, p .4, p .5)
+    let k = c .before .before .before .before in
+    let p = k .before .before .before .before .before .before .before .pre in
+    let r = k .ranking .ensures in
+    (words-most _ 32 _ (omega (arith, r .0, r .1)) (r .0), r .4, rw (r .2) (words-most _ 32 _ (omega (arith, r .0, r .1)) (r .0)), p .3, p .4, p .5, p .6, p .7)
 
 same-length : tie.Need-same-length
 same-length c = search needs
@@ -35,8 +39,9 @@ same-length-2 c = search needs
 
 returns : tie.Need-returns
 returns c =
-    c .before .before .before .before .first-best .ensures
-    ∙ ap (λ (l : List ℕ). nextFrom (soughtBest (over l) (now (c .before .before .before .before .before .before .before .before .before .before .before .before .before .args .marks))) 0) (c .before .before .before .before .before .before .before .before .before .ranking .ensures .2)
+    let x = c .before .before .before .before in
+    let k = x .before .before .before .before .before in
+    x .first-best .ensures ∙ ap (λ (l : List ℕ). nextFrom (soughtBest (over l) (now (k .before .before .before .before .before .before .before .args .marks))) 0) (k .ranking .ensures .3)
 
 pub first-best-by-spec : {M : Type 1} → statement M
 first-best-by-spec =
@@ -45,6 +50,7 @@ first-best-by-spec =
     ranking-requires
     array-share-prefix-kept
     slice-aggregate-first-best
+    slice-aggregate-first-best-2
     first-best-requires
     same-length
     same-length-2

@@ -20,11 +20,15 @@ array-share-prefix-kept c = search needs
 slice-aggregate-keep-best : tie.Need-slice-aggregate-keep-best
 slice-aggregate-keep-best c = words-many _ _ (array-share-prefix-kept (c .before))
 
+slice-aggregate-keep-best-2 : tie.Need-slice-aggregate-keep-best-2
+slice-aggregate-keep-best-2 c = search needs
+
 keep-best-requires : tie.Need-keep-best-requires
 keep-best-requires c κs =
-    let p = c .before .before .before .before .before .before .before .before .pre in
-    let r = c .before .before .before .before .ranking .ensures in
-    (words-most _ 32 _ (omega (arith, r .0, r .1)) (r .0), p .1, p .2, p .3, p .4, p .5)
+    let k = c .before .before .before .before in
+    let p = k .before .before .before .before .before .before .before .pre in
+    let r = k .ranking .ensures in
+    (words-most _ 32 _ (omega (arith, r .0, r .1)) (r .0), r .4, rw (r .2) (words-most _ 32 _ (omega (arith, r .0, r .1)) (r .0)), p .3, p .4, p .5, p .6, p .7)
 
 same-length : tie.Need-same-length
 same-length c = search needs
@@ -34,9 +38,10 @@ same-length-2 c = search needs
 
 returns : tie.Need-returns
 returns c =
-    let x = c .before .before .before .before .keep-best .ensures in
-    let e = c .before .before .before .before .before .before .before .before .before .ranking .ensures .2 in
-    (x .0, x .1, λ s l. x .2 s l ∙ ap (λ (l : List ℕ). soughtBest (over l) (now (c .before .before .before .before .before .before .before .before .before .before .before .before .before .args .marks)) s) e)
+    let x = c .before .before .before .before in
+    let k = x .before .before .before .before .before in
+    let e = x .keep-best .ensures in
+    (e .0, e .1, λ s l. e .2 s l ∙ ap (λ (l : List ℕ). soughtBest (over l) (now (k .before .before .before .before .before .before .before .args .marks)) s) (k .ranking .ensures .3))
 
 pub keep-best-by-spec : {M : Type 1} → statement M
 keep-best-by-spec =
@@ -45,6 +50,7 @@ keep-best-by-spec =
     ranking-requires
     array-share-prefix-kept
     slice-aggregate-keep-best
+    slice-aggregate-keep-best-2
     keep-best-requires
     same-length
     same-length-2

@@ -10,15 +10,23 @@ use borrow.Author.Needs.{needs}
 use Rattle.lanes.proofs.sets.pick_with.Statement.{statement}
 use Rattle.lanes.proofs.sets.pick_with.Tie as tie
 
+slice-aggregate-mark : tie.Need-slice-aggregate-mark
+slice-aggregate-mark c = search needs
+
 mark-requires : tie.Need-mark-requires
 mark-requires c κs = search needs
 
+slice-aggregate-first-best-by : tie.Need-slice-aggregate-first-best-by
+slice-aggregate-first-best-by c = search needs
+
 first-best-by-requires : tie.Need-first-best-by-requires
 first-best-by-requires c κs =
-    let m = c .before .before .before .before .mark .ensures in
+    let x = c .before .before .before .before .before .before in
+    let e = x .mark .ensures in
+    let m = e .0 in
     let l = may-list m _ refl (m .between) in
-    let p = c .before .before .before .before .before .before .before .before .before .before .pre in
-    (p .0, l .0, let e = m .long in let f = p .2 in let g = p .4 in omega arith, l .3, l .2, l .1)
+    let p = x .before .before .before .before .before .before .before .pre in
+    (p .0, e .1, omega (arith, e .2, p .0), l .0, let k = m .long in let f = p .2 in let g = p .4 in omega arith, l .3, l .2, l .1)
 
 same-length : tie.Need-same-length
 same-length c = search needs
@@ -29,10 +37,18 @@ same-length-2 c = search needs
 returns : tie.Need-returns
 unfolding pick
 returns c =
-    let m = c .before .before .before .before .before .before .before .before .before .mark .ensures in
-    let f = c .before .before .before .before .first-best-by in
-    first-number _ (f .result) (f .ensures) ∙ ap (λ (l : List ℕ). numberOf (firstOf l)) (m .best)
+    let y = c .before .before .before .before in
+    let f = y .first-best-by in
+    first-number _ (f .result) (f .ensures) ∙ ap (λ (l : List ℕ). numberOf (firstOf l)) (y .before .before .before .before .before .before .before .mark .ensures .0 .best)
 
 pub pick-with-spec : {M : Type 1} → statement M
 pick-with-spec =
-    tie.close (tie.spec mark-requires first-best-by-requires same-length same-length-2 returns)
+    tie.close
+    (tie.spec
+    slice-aggregate-mark
+    mark-requires
+    slice-aggregate-first-best-by
+    first-best-by-requires
+    same-length
+    same-length-2
+    returns)

@@ -10,11 +10,14 @@ use borrow.Author.Needs.{needs}
 use Rattle.lanes.proofs.sets.sets_with.Statement.{statement}
 use Rattle.lanes.proofs.sets.sets_with.Tie as tie
 
+slice-aggregate-mark : tie.Need-slice-aggregate-mark
+slice-aggregate-mark c = search needs
+
 mark-requires : tie.Need-mark-requires
 mark-requires c κs = search needs
 
 listed-requires : tie.Need-listed-requires
-listed-requires c κs = let m = c .before .before .before .before .before .mark .ensures in may-list m _ refl (m .between)
+listed-requires c κs = let m = c .before .before .before .before .before .before .mark .ensures .0 in may-list m _ refl (m .between)
 
 same-length : tie.Need-same-length
 same-length c = search needs
@@ -24,22 +27,28 @@ same-length-2 c = search needs
 
 returns : tie.Need-returns
 returns c =
-    let a = c .before .before .before .before .before .before .before .before .before .before .before .before .before .before .before .args in
-    let p = programIn (now (a .rows)) (now (a .pairs)) (a .flags) in
-    let m = c .before .before .before .before .before .before .before .before .mark .ensures in
-    found-same (now (a .out)) (m .all ∙ wanted-all (a .best) p (not-true _ (c .before .before .before .before .before .if1 .taken))) (c .before .before .listed .ensures)
+    let i = c .before .before .before .before .before in
+    let x = i .before .before .before .before in
+    let a = x .before .before .before .before .before .before .before .before .args in
+    found-same (now (a .out)) (x .mark .ensures .0 .all ∙ wanted-all (a .best) (programIn (now (a .rows)) (now (a .pairs)) (a .flags)) (not-true _ (i .if1 .taken))) (c .before .before .listed .ensures)
+
+slice-aggregate-keep-best-by : tie.Need-slice-aggregate-keep-best-by
+slice-aggregate-keep-best-by c = search needs
 
 keep-best-by-requires : tie.Need-keep-best-by-requires
 keep-best-by-requires c κs =
-    let m = c .before .before .before .before .before .mark .ensures in
+    let x = c .before .before .before .before .before .before .before in
+    let e = x .mark .ensures in
+    let m = e .0 in
     let l = may-list m _ refl (m .between) in
-    let p = c .before .before .before .before .before .before .before .before .before .before .before .before .pre in
-    (p .0, l .0, let e = m .long in let f = p .2 in let g = p .4 in omega arith, l .3, l .2, l .1)
+    let p = x .before .before .before .before .before .before .before .before .pre in
+    (p .0, e .1, omega (arith, e .2, p .0), l .0, let k = m .long in let f = p .2 in let g = p .4 in omega arith, l .3, l .2, l .1)
 
 listed-requires-2 : tie.Need-listed-requires-2
 listed-requires-2 c κs =
-    let k = c .before .before .before .before .before .before .keep-best-by .ensures in
-    may-list (c .before .before .before .before .before .before .before .before .before .before .before .before .mark .ensures) _ (k .0) (k .1)
+    let y = c .before .before .before .before .before .before in
+    let k = y .keep-best-by .ensures in
+    may-list (y .before .before .before .before .before .before .before .before .mark .ensures .0) _ (k .0) (k .1)
 
 same-length-3 : tie.Need-same-length-3
 same-length-3 c = search needs
@@ -52,21 +61,25 @@ same-length-5 c = search needs
 
 returns-2 : tie.Need-returns-2
 returns-2 c =
-    let a = c .before .before .before .before .before .before .before .before .before .before .before .before .before .before .before .before .before .before .before .before .before .before .args in
-    let p = programIn (now (a .rows)) (now (a .pairs)) (a .flags) in
-    let m = c .before .before .before .before .before .before .before .before .before .before .before .before .before .before .before .mark .ensures in
-    let k = c .before .before .before .before .before .before .before .before .before .keep-best-by .ensures in
-    found-same (now (a .out)) (same-all _ _ (k .2) ∙ m .best ∙ wanted-best (a .best) p (not-false _ (c .before .before .before .before .before .before .before .before .before .before .before .before .if1 .left))) (c .before .before .listed2 .ensures)
+    let y = c .before .before .before .before .before .before .before .before .before in
+    let i = y .before .before .before .before in
+    let x = i .before .before .before .before in
+    let a = x .before .before .before .before .before .before .before .before .args in
+    found-same (now (a .out))
+    (same-all _ _ (y .keep-best-by .ensures .2) ∙ x .mark .ensures .0 .best ∙ wanted-best (a .best) (programIn (now (a .rows)) (now (a .pairs)) (a .flags)) (not-false _ (i .if1 .left)))
+    (c .before .before .listed2 .ensures)
 
 pub sets-with-spec : {M : Type 1} → statement M
 sets-with-spec =
     tie.close
     (tie.spec
+    slice-aggregate-mark
     mark-requires
     listed-requires
     same-length
     same-length-2
     returns
+    slice-aggregate-keep-best-by
     keep-best-by-requires
     listed-requires-2
     same-length-3

@@ -1,19 +1,13 @@
--- `word::block_words`: the words of block 0, and those of the upper atoms raised. Assumes nothing.
-use Rattle.lanes.proofs.Words.{block-made}
-use borrow.Author.Needs.{needs}
+-- `word::block_words`: from the table of block 0. Assumes nothing.
+use Rattle.lanes.proofs.Words.{block-zero}
 use Rattle.lanes.proofs.word.block_words.Statement.{statement}
 use Rattle.lanes.proofs.word.block_words.Tie as tie
 
-mul-raise : tie.Need-mul-raise
-mul-raise c = search needs
-
-raise-requires : tie.Need-raise-requires
-raise-requires c κs = search needs
+to-block-requires : tie.Need-to-block-requires
+to-block-requires c κs = (c .before .pre, block-zero)
 
 returns : tie.Need-returns
-returns c =
-    let r = c .raise .ensures in
-    block-made _ (c .before .before .args .b) (c .before .before .pre) (r .0) (r .1)
+returns c = c .to-block .ensures
 
 pub block-words-spec : {M : Type 1} → statement M
-block-words-spec = tie.close (tie.spec mul-raise raise-requires returns)
+block-words-spec = tie.close (tie.spec to-block-requires returns)
