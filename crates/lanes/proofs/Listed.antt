@@ -1,6 +1,6 @@
 -- What a call that lists sets says, for each of its ways out; and the pick as the first of a list. Assumes nothing.
 use mathlib.Core.Path.{_≡_, refl, sym, ap, _∙_, subst}
-use mathlib.Core.Bool.{Bool, true, false}
+use mathlib.Core.Bool.{Bool, false, cond}
 use mathlib.Core.List.{List, [], _∷_}
 use Prim.Native.Nat.{ℕ, zero, suc, _+_, _/_, _%_, _≤_, _<_}
 use native.Mathlib.Decide.{decLt}
@@ -54,14 +54,9 @@ module _ (q : ℕ → Bool) (m : ℕ) (e : m ≡ nextFrom q 0) where
       go (no l) = none-first (omega arith)
 
 -- ---- from the marks to the lists
-module _ (best : Bool) (p : Program) where
-  pub wanted-all : best ≡ false → answerSets p ≡ wanted best p
-  unfolding wanted
-  wanted-all e = rw e
-
-  pub wanted-best : best ≡ true → bestSets p ≡ wanted best p
-  unfolding wanted
-  wanted-best e = rw e
+pub wanted-kept : (best : Bool) (p : Program) {all some : List ℕ} → all ≡ answerSets p → some ≡ bestSets p → cond best some all ≡ wanted best p
+unfolding wanted
+wanted-kept best p ea es = rw (ea, es)
 
 -- what a list asks of the marks, and of marks with as many words
 module _ {rows pairs : List ℕ} {flags top : ℕ} {marks : List ℕ} (m : Marked rows pairs flags top marks) where

@@ -61,12 +61,7 @@ pub fn first_rows(grades: &[u8], n: usize) -> u32
 }
 
 // Those of the rows that have two head atoms or more, at the start of a lent array, the low parts of their bodies in another, and how many they are.
-pub fn ranking(
-    rows: &[u64],
-    lows: &[u64],
-    kept: &mut [u64; 32],
-    bodies: &mut [u64; 32],
-) -> usize
+pub fn ranking(rows: &[u64], lows: &[u64], kept: &mut [u64; 32], bodies: &mut [u64; 32]) -> usize
     requires { ⌜ (length (now rows) ≤ 32) × LowBodies (now rows) (now lows) × (length (now rows) ≤ length (now lows)) × (length (now kept) ≡ 32) × (length (now bodies) ≡ 32) ⌝ }
     ensures { λ r. ⌜ (r ≤ 32) × (length (now (kept .exit)) ≡ 32) × (length (now (bodies .exit)) ≡ 32) × (take r (now (kept .exit)) ≡ keep ranks (now (rows .entry))) × LowBodies (take r (now (kept .exit))) (now (bodies .exit)) ⌝ }
 {

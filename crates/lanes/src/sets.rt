@@ -1,7 +1,7 @@
 // The answer sets of rows and pairs in words and a flag word: all of them or the best, in lent memory, and the pick. Any words, flag word and slice
 // will do.
 ghost use mathlib.Core.Path.{_≡_};
-ghost use mathlib.Core.Bool.{false};
+ghost use mathlib.Core.Bool.{false, cond};
 ghost use Prim.Native.Nat.{ℕ, _+_, _/_, _≤_, _<_};
 ghost use lib.Dec.{T};
 ghost use lib.ListN.{length};
@@ -37,14 +37,7 @@ fn listed(marks: &[u64], low: u16, high: u16, out: &mut [u16]) -> u32
 }
 
 // Of the marked sets only the best by these rows keep their marks.
-fn keep_best(
-    rows: &[u64],
-    lows: &[u64],
-    low: u16,
-    high: u16,
-    index: &mut [u32],
-    marks: &mut [u64],
-)
+fn keep_best(rows: &[u64], lows: &[u64], low: u16, high: u16, index: &mut [u32], marks: &mut [u64])
     requires { ⌜ (length (now rows) ≤ 32) × LowBodies (now rows) (now lows) × (length (now rows) ≤ length (now lows)) × (length (now marks) ≤ 1024) × (length (now marks) ≤ length (now index)) × (low < length (now marks)) × T (inside low high) × Within (now marks) low high ⌝ }
     ensures { λ r. ⌜ (length (now (marks .exit)) ≡ length (now (marks .entry))) × Within (now (marks .exit)) low high × ((s : ℕ) → s < 65536 → marked (now (marks .exit)) s ≡ soughtBest (over (now (rows .entry))) (now (marks .entry)) s) ⌝ }
 {
@@ -70,18 +63,22 @@ fn first_best(
     search::first_best(rows, lows, deepest, low, high, &*index, &mut *marks)
 }
 
-// Of the marked sets only the best keep their marks. Rows that do not rank are left out.
-fn keep_best_by(
+// Where only the best are wanted, only the best of the marked sets keep their marks. Rows that do not rank are left out.
+fn keep_wanted(
     rows: &[u64],
     lows: &[u64],
     low: u16,
     high: u16,
+    best: bool,
     index: &mut [u32],
     marks: &mut [u64],
 )
     requires { ⌜ (length (now rows) ≤ 32) × LowBodies (now rows) (now lows) × (length (now rows) ≤ length (now lows)) × (length (now marks) ≤ 1024) × (length (now marks) ≤ length (now index)) × (low < length (now marks)) × T (inside low high) × Within (now marks) low high ⌝ }
-    ensures { λ r. ⌜ (length (now (marks .exit)) ≡ length (now (marks .entry))) × Within (now (marks .exit)) low high × ((s : ℕ) → s < 65536 → marked (now (marks .exit)) s ≡ soughtBest (over (keep ranks (now (rows .entry)))) (now (marks .entry)) s) ⌝ }
+    ensures { λ r. ⌜ (length (now (marks .exit)) ≡ length (now (marks .entry))) × Within (now (marks .exit)) low high × (allFrom (marked (now (marks .exit))) 0 ≡ cond best (allFrom (soughtBest (over (keep ranks (now (rows .entry)))) (now (marks .entry))) 0) (allFrom (marked (now (marks .entry))) 0)) ⌝ }
 {
+    if !best {
+        return;
+    }
     let mut kept = [0u64; 32];
     let mut bodies = [0u64; 32];
     let n = rank::ranking(rows, lows, &mut kept, &mut bodies);
@@ -134,10 +131,7 @@ fn sets_with(
     mark(rows, pairs, flags, top, &mut lows, &mut *marks);
     let low = flags / 64;
     let high = top / 64;
-    if !best {
-        return listed(&*marks, low, high, &mut *out);
-    }
-    keep_best_by(rows, &lows, low, high, &mut *index, &mut *marks);
+    keep_wanted(rows, &lows, low, high, best, &mut *index, &mut *marks);
     listed(&*marks, low, high, &mut *out)
 }
 
