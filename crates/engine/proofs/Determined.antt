@@ -166,20 +166,24 @@ row-total page x y p q = one-answer (p .0) (q .0)
 pub pair-total : (page : List ℕ) (x y : ℕ) → (x ≡ coded.pairTotal page) × (x ≤ 8) → (y ≡ coded.pairTotal page) × (y ≤ 8) → x ≡ y
 pair-total page x y p q = one-answer (p .0) (q .0)
 
--- so many words first, and 0 after them
-padded : (n t : ℕ) (l x y : List ℕ) → (length x ≡ n) × (take t x ≡ l) × (drop t x ≡ replicate (n - t) 0)
-    → (length y ≡ n) × (take t y ≡ l) × (drop t y ≡ replicate (n - t) 0) → x ≡ y
-padded n t l x y p q = sym (take-append-drop t x) ∙ rw (p .1, p .2, ← q .1, ← q .2) (take-append-drop t y)
+-- these words first, and those after them
+parted : (n t : ℕ) (l m x y : List ℕ) → (length x ≡ n) × (take t x ≡ l) × (drop t x ≡ m) → (length y ≡ n) × (take t y ≡ l) × (drop t y ≡ m) → x ≡ y
+parted n t l m x y p q = sym (take-append-drop t x) ∙ rw (p .1, p .2, ← q .1, ← q .2) (take-append-drop t y)
 
 pub row-words : (page x y : List ℕ)
     → (length x ≡ 32) × (take (coded.rowTotal page) x ≡ coded.rowWords page) × (drop (coded.rowTotal page) x ≡ replicate (32 - coded.rowTotal page) 0)
     → (length y ≡ 32) × (take (coded.rowTotal page) y ≡ coded.rowWords page) × (drop (coded.rowTotal page) y ≡ replicate (32 - coded.rowTotal page) 0) → x ≡ y
-row-words page x y = padded 32 (coded.rowTotal page) (coded.rowWords page) x y
+row-words page x y = parted 32 (coded.rowTotal page) (coded.rowWords page) (replicate (32 - coded.rowTotal page) 0) x y
 
 pub pair-words : (page x y : List ℕ)
     → (length x ≡ 8) × (take (coded.pairTotal page) x ≡ coded.pairWords page) × (drop (coded.pairTotal page) x ≡ replicate (8 - coded.pairTotal page) 0)
     → (length y ≡ 8) × (take (coded.pairTotal page) y ≡ coded.pairWords page) × (drop (coded.pairTotal page) y ≡ replicate (8 - coded.pairTotal page) 0) → x ≡ y
-pair-words page x y = padded 8 (coded.pairTotal page) (coded.pairWords page) x y
+pair-words page x y = parted 8 (coded.pairTotal page) (coded.pairWords page) (replicate (8 - coded.pairTotal page) 0) x y
+
+pub fill-rows : (page before x y : List ℕ)
+    → (length x ≡ 32) × (take (coded.rowTotal page) x ≡ coded.rowWords page) × (drop (coded.rowTotal page) x ≡ drop (coded.rowTotal page) before)
+    → (length y ≡ 32) × (take (coded.rowTotal page) y ≡ coded.rowWords page) × (drop (coded.rowTotal page) y ≡ drop (coded.rowTotal page) before) → x ≡ y
+fill-rows page before x y = parted 32 (coded.rowTotal page) (coded.rowWords page) (drop (coded.rowTotal page) before) x y
 
 -- words::row
 pub pos-in : (row s : ℕ) (x y : Bool) → x ≡ allIn (coded.ruleIn row .pos) s → y ≡ allIn (coded.ruleIn row .pos) s → x ≡ y
