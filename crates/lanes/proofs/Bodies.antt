@@ -8,7 +8,7 @@ use native.Mathlib.Nat.{mod-lt, zero-lt-suc, pow-suc}
 use native.Mathlib.Decide.{ℕ-discrete, decLt}
 use native.Mathlib.Omega.{arith}
 use lib.Arith.{lt-of-le-ne}
-use lib.Bits.{bitAnd}
+use lib.Bits.{bitAnd, bitXor}
 use lib.Count.{trailingZeros, under}
 use lib.Dec.{T, eqb, eqb→eq, eqb-refl, T-not, not-T, eqb·suc-zero, eqb·suc-suc}
 use lib.ListN.{length, getD, set}
@@ -23,8 +23,9 @@ use Rattle.lpod.specs.Satisfied.{allIn, someIn, noneIn, bodyHolds}
 use Rattle.words.specs.Coded.{atomsIn, posSet, negSet, ruleIn}
 use Rattle.words.proofs.Bodies.{body-all, body-some}
 use borrow.Author.Tests.{eq-eqb, ne-eqb}
-use Rattle.lanes.specs.Lanes.{column, Block, LowBody}
-use Rattle.lanes.proofs.Words.{full, has-not, has-full, has-column, low-six, high-ten}
+use Rattle.lanes.specs.Lanes.{turn, column, Block, LowBody}
+use Rattle.lanes.proofs.Words.{full, has-full, has-column, low-six, high-ten}
+use Rattle.lanes.proofs.Columns.{has-xor}
 
 -- ---- the atoms of a list of them are those of the set
 module _ (q : ℕ → Bool) (p : ℕ) where
@@ -130,39 +131,30 @@ module _ (p : ℕ) (h : p < 65536) (z : p ≡ 0 → ⊥) (k : ℕ) (e : k ≡ lo
 pub raise-end : (p : ℕ) (w : List ℕ) → p ≡ 0 → (a j : ℕ) → (has p a || has (getD w a 0) j) ≡ has (getD w a 0) j
 raise-end p w e a j = rw (e, has-zero a)
 
--- ---- the two loops, in one lane: y is what is left of the lanes, w the word of the lowest atom
-module _ (p : ℕ) (h : p < 65536) (z : p ≡ 0 → ⊥) (a : ℕ) (e : a ≡ lowest p) (w : List ℕ) (v : ℕ) (ev : v ≡ getD w a 0) (y j : ℕ) where
-  word-has : has (column w j) a ≡ has v j
-  word-has = has-column w j a ∙ ap (λ (x : ℕ). has x j) (sym ev)
+-- ---- the loop over atoms, in one lane: y is what is left of the lanes, v the word of the lowest atom, t the lanes that are turned over
+abbrev pub Each : ℕ → Bool → ℕ → Bool
+Each p t s = every (λ a. turn t (has s a)) (atomsIn p)
 
-  pub all-turn : (has y j && allIn (atomsIn p) (column w j)) ≡ (has (bitAnd y (v)) j && allIn (atomsIn (without p)) (column w j))
-  unfolding allIn
-  all-turn =
-      let R : Bool = every (has (column w j)) (atomsIn (without p)) in
-      ap (λ (b : Bool). has y j && b) (atoms-step p h z a e (has (column w j)) ∙ ap (λ (b : Bool). b && R) word-has)
-      ∙ sym (and-assoc (has y j) (has (v) j) R) ∙ ap (λ (b : Bool). b && R) (sym (has-and y (v) j))
-
-  pub none-turn : j < 64 → v ≤ full → (has y j && noneIn (atomsIn p) (column w j)) ≡ (has (bitAnd y (full - v)) j && noneIn (atomsIn (without p)) (column w j))
-  none-turn l k =
-      let N : ℕ → Bool = λ i. not (has (column w j) i) in
-      let R : Bool = every N (atomsIn (without p)) in
-      ap (λ (b : Bool). has y j && b) (none-every (atomsIn p) (column w j) ∙ atoms-step p h z a e N ∙ ap (λ (b : Bool). not b && R) word-has)
-      ∙ ap (λ (b : Bool). has y j && (b && R)) (sym (has-not (v) j k l))
-      ∙ sym (and-assoc (has y j) (has (full - v) j) R) ∙ ap (λ (b : Bool). b && R) (sym (has-and y (full - v) j))
-      ∙ ap (λ (b : Bool). has (bitAnd y (full - v)) j && b) (sym (none-every (atomsIn (without p)) (column w j)))
+module _ (p : ℕ) (h : p < 65536) (z : p ≡ 0 → ⊥) (a : ℕ) (e : a ≡ lowest p) (w : List ℕ) (v : ℕ) (ev : v ≡ getD w a 0) (t y j : ℕ) where
+  pub each-turn : (has y j && Each p (has t j) (column w j)) ≡ (has (bitAnd y (bitXor t v)) j && Each (without p) (has t j) (column w j))
+  each-turn =
+      let R : Bool = Each (without p) (has t j) (column w j) in
+      ap (λ (b : Bool). has y j && b)
+      (atoms-step p h z a e (λ i. turn (has t j) (has (column w j) i)) ∙ ap (λ (b : Bool). turn (has t j) b && R) (has-column w j a ∙ ap (λ (x : ℕ). has x j) (sym ev)) ∙ ap (λ (b : Bool). b && R) (sym (has-xor t v j)))
+      ∙ sym (and-assoc (has y j) (has (bitXor t v) j) R) ∙ ap (λ (b : Bool). b && R) (sym (has-and y (bitXor t v) j))
 
 -- no atom is left
-no-atoms : atomsIn 0 ≡ []
-unfolding atomsIn keep has numbers
-no-atoms = refl
+pub each-end : (p : ℕ) (t b : Bool) (s : ℕ) → p ≡ 0 → (b && Each p t s) ≡ b
+unfolding every atomsIn keep has numbers
+each-end p t b s e = ap (λ (n : ℕ). b && Each n t s) e ∙ and-true b
 
-pub all-end : (p s : ℕ) (b : Bool) → p ≡ 0 → (b && allIn (atomsIn p) s) ≡ b
-unfolding allIn every
-all-end p s b e = ap (λ (l : List ℕ). b && allIn l s) (ap atomsIn e ∙ no-atoms) ∙ and-true b
+-- none is turned over, or all are
+pub each-all : (p s j : ℕ) (b : Bool) → (b && Each p (has 0 j) s) ≡ (b && allIn (atomsIn p) s)
+unfolding allIn
+each-all p s j b = ap (λ (t : Bool). b && Each p t s) (has-zero j)
 
-pub none-end : (p s : ℕ) (b : Bool) → p ≡ 0 → (b && noneIn (atomsIn p) s) ≡ b
-unfolding every
-none-end p s b e = ap (λ (l : List ℕ). b && noneIn l s) (ap atomsIn e ∙ no-atoms) ∙ ap (λ (c : Bool). b && c) (none-every [] s) ∙ and-true b
+pub each-none : (p s j : ℕ) (b : Bool) → j < 64 → (b && Each p (has full j) s) ≡ (b && noneIn (atomsIn p) s)
+each-none p s j b l = ap (λ (t : Bool). b && Each p t s) (has-full j l) ∙ ap (λ (c : Bool). b && c) (sym (none-every (atomsIn p) s))
 
 -- ---- the two parts of a set of atoms p in a set of block b
 module _ (p b j : ℕ) (h : p < 65536) (l : j < 64) where

@@ -16,7 +16,7 @@ use lib.Seq.{drop-cons, getD-set-same, getD-set-other}
 use Rattle.atoms.specs.Atoms.{has, insert}
 use Rattle.atoms.proofs.Truth.{same-yes, true-yes}
 use Rattle.atoms.proofs.Bits.{two, has-and, has-or, has-insert, same-atoms}
-use Rattle.lanes.specs.Lanes.{column}
+use Rattle.lanes.specs.Lanes.{turn, column}
 use Rattle.lanes.proofs.Words.{full, has-not, has-column}
 
 -- ---- an atom goes in
@@ -44,23 +44,19 @@ pub put-length : (ws out : List ℕ) (a v : ℕ) → out ≡ set ws a (bitOr (ge
 put-length ws out a v e = ap length e ∙ length-set ws a (bitOr (getD ws a 0) v)
 
 -- ---- the same set
-abbrev unlike : Bool → Bool → Bool
-unlike true b = not b
-unlike false b = b
-
-xor-bits : (a b : ℕ) → eqb (bitXor (a % 2) (b % 2)) 1 ≡ unlike (eqb (a % 2) 1) (eqb (b % 2) 1)
+xor-bits : (a b : ℕ) → eqb (bitXor (a % 2) (b % 2)) 1 ≡ turn (eqb (a % 2) 1) (eqb (b % 2) 1)
 xor-bits a b =
-    two (λ x. eqb (bitXor x (b % 2)) 1 ≡ unlike (eqb x 1) (eqb (b % 2) 1))
+    two (λ x. eqb (bitXor x (b % 2)) 1 ≡ turn (eqb x 1) (eqb (b % 2) 1))
     (two (λ y. eqb (bitXor 0 y) 1 ≡ eqb y 1) refl refl (b % 2) (mod-lt b (zero-lt-suc 1)))
     (two (λ y. eqb (bitXor 1 y) 1 ≡ not (eqb y 1)) refl refl (b % 2) (mod-lt b (zero-lt-suc 1)))
     (a % 2) (mod-lt a (zero-lt-suc 1))
 
-has-xor : (a b i : ℕ) → has (bitXor a b) i ≡ unlike (has a i) (has b i)
+pub has-xor : (a b i : ℕ) → has (bitXor a b) i ≡ turn (has a i) (has b i)
 unfolding has
 has-xor a b i = rw (xor-shr, xor-mod (a / 2 ^ i) (b / 2 ^ i) 1) (xor-bits (a / 2 ^ i) (b / 2 ^ i))
 
 -- two numbers are the same if their lowest bits and their halves are
-same-bits : (a b : Bool) (m n : ℕ) → eqb (cond a 1 0 + 2 * m) (cond b 1 0 + 2 * n) ≡ (not (unlike a b) && eqb m n)
+same-bits : (a b : Bool) (m n : ℕ) → eqb (cond a 1 0 + 2 * m) (cond b 1 0 + 2 * n) ≡ (not (turn a b) && eqb m n)
 same-bits true true m n =
     same-yes (eqb (1 + 2 * m) (1 + 2 * n)) (eqb m n)
     (λ t. true-yes (eq-eqb m n (omega (arith, eqb→eq (1 + 2 * m) (1 + 2 * n) t)))) (λ t. true-yes (eq-eqb (1 + 2 * m) (1 + 2 * n) (omega (arith, eqb→eq m n t))))
@@ -81,7 +77,7 @@ module _ (v w : List ℕ) (j : ℕ) where
   same-turn k acc x y kv kw ex ey hx hy l =
       ap (λ (q : Bool). has acc j && q)
       (rw (drop-cons v k 0 kv, drop-cons w k 0 kw, ← ex, ← ey, add-one k) (same-bits (has x j) (has y j) (column (drop (suc k) v) j) (column (drop (suc k) w) j)))
-      ∙ sym (and-assoc (has acc j) (not (unlike (has x j) (has y j))) (sameFrom (k + 1) v w j))
+      ∙ sym (and-assoc (has acc j) (not (turn (has x j) (has y j))) (sameFrom (k + 1) v w j))
       ∙ ap (λ (q : Bool). q && sameFrom (k + 1) v w j)
       (sym (has-and acc (full - bitXor x y) j ∙ ap (λ (q : Bool). has acc j && q) (has-not (bitXor x y) j (omega (arith, xor-lt 64 x y (omega arith) (omega arith))) l ∙ ap not (has-xor x y j))))
 

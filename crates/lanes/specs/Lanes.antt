@@ -1,6 +1,6 @@
 -- Sixty-four sets at once. Block b has the sets 64 b to 64 b + 63. A word of 64 bits says yes or no of each: bit j, lane j, is for the set 64 b + j.
 use mathlib.Core.Path.{_≡_}
-use mathlib.Core.Bool.{Bool, _&&_, cond}
+use mathlib.Core.Bool.{Bool, true, false, _&&_, not, cond}
 use mathlib.Core.List.{List, [], _∷_}
 use Prim.Native.Nat.{ℕ, _+_, _*_, _%_, _<_}
 use lib.ListN.{length, getD}
@@ -11,6 +11,11 @@ use Rattle.words.specs.Coded.{posSet, negSet, atomsIn}
 -- in each lane the word says what q says of the lane's set
 abbrev pub Says : ℕ → ℕ → (ℕ → Bool) → Type 0
 Says b x q = (j : ℕ) → j < 64 → has x j ≡ q (64 * b + j)
+
+-- b, turned over where t says so
+abbrev pub turn : Bool → Bool → Bool
+turn true b = not b
+turn false b = b
 
 -- a word for each atom is 64 sets: atom a is in the set of lane j where bit j of word a is set
 unfoldable pub column : List ℕ → ℕ → ℕ

@@ -4,6 +4,7 @@ ghost use mathlib.Core.Bool.{_&&_, _||_};
 ghost use Prim.Native.Nat.{ℕ, _≤_, _<_};
 ghost use lib.ListN.{length, getD};
 ghost use Rattle.atoms.specs.Atoms.{has};
+ghost use Rattle.lpod.specs.Lists.{every};
 ghost use Rattle.lpod.specs.Satisfied.{allIn, noneIn, bodyHolds};
 ghost use Rattle.words.specs.Coded.{atomsIn, ruleIn};
 ghost use Rattle.lanes.specs.Lanes as means;
@@ -67,19 +68,27 @@ pub fn at(w: &[u64; 16], a: u32) -> u64
     w[a as usize]
 }
 
+// The lanes of x that lie in the word of each of these atoms. Lanes of `turned` count where they do not.
+fn in_each(these: u16, w: &[u64; 16], turned: u64, x: u64) -> u64
+    requires { ⌜ length (now w) ≡ 16 ⌝ }
+    ensures { λ r. ⌜ ((j : ℕ) → j < 64 → has r j ≡ (has x j && every (λ a. means.turn (has turned j) (has (means.column (now (w .entry)) j) a)) (atomsIn these))) ⌝ }
+{
+    let mut y = x;
+    let mut rest = these;
+    while rest != 0 {
+        let a = atoms::lowest(rest);
+        y = y & (turned ^ at(w, a));
+        rest = rest & (rest - 1);
+    }
+    y
+}
+
 // The lanes of x whose set holds every atom of `all`.
 pub fn all_in(all: u16, w: &[u64; 16], x: u64) -> u64
     requires { ⌜ length (now w) ≡ 16 ⌝ }
     ensures { λ r. ⌜ ((j : ℕ) → j < 64 → has r j ≡ (has x j && allIn (atomsIn all) (means.column (now (w .entry)) j))) ⌝ }
 {
-    let mut y = x;
-    let mut rest = all;
-    while rest != 0 {
-        let a = atoms::lowest(rest);
-        y = y & at(w, a);
-        rest = rest & (rest - 1);
-    }
-    y
+    in_each(all, w, 0, x)
 }
 
 // The lanes of x whose set holds no atom of `none`.
@@ -87,14 +96,7 @@ pub fn none_in(none: u16, w: &[u64; 16], x: u64) -> u64
     requires { ⌜ length (now w) ≡ 16 ⌝ }
     ensures { λ r. ⌜ ((j : ℕ) → j < 64 → has r j ≡ (has x j && noneIn (atomsIn none) (means.column (now (w .entry)) j))) ⌝ }
 {
-    let mut y = x;
-    let mut rest = none;
-    while rest != 0 {
-        let a = atoms::lowest(rest);
-        y = y & !at(w, a);
-        rest = rest & (rest - 1);
-    }
-    y
+    in_each(none, w, 0xFFFF_FFFF_FFFF_FFFF, x)
 }
 
 // The lanes in which the low part of each row's body holds, at the start of the lent slice. The words of block 0 are given.

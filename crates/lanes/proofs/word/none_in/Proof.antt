@@ -1,66 +1,18 @@
--- `word::none_in` goes from the lowest atom up. Assumes nothing.
-use Prim.Native.Nat.{ℕ, _<_}
-use mathlib.Core.Path.{_≡_, refl, sym, _∙_}
-use mathlib.Core.Bool.{_&&_}
-use native.Mathlib.Omega.{arith}
+-- `word::none_in`: every lane is turned over. Assumes nothing.
+use mathlib.Core.Path.{_∙_}
+use denote.Ref.{now}
 use Rattle.atoms.specs.Atoms.{has}
-use Rattle.lpod.specs.Satisfied.{noneIn}
-use Rattle.words.specs.Coded.{atomsIn}
 use Rattle.lanes.specs.Lanes.{column}
-use Rattle.lanes.proofs.Bodies.{lowest-small, rest-less, none-turn, none-end}
+use Rattle.lanes.proofs.Bodies.{each-none}
+use borrow.Author.Needs.{needs}
 use Rattle.lanes.proofs.word.none_in.Statement.{statement}
 use Rattle.lanes.proofs.word.none_in.Tie as tie
 
-abbrev Inv-loop : tie.InvT-loop
-Inv-loop none w x y₀ rest₀ y rest = (rest < 65536) × ((j : ℕ) → j < 64 → (has x j && noneIn (atomsIn none) (column w j)) ≡ (has y j && noneIn (atomsIn rest) (column w j)))
+in-each-requires : tie.Need-in-each-requires
+in-each-requires c κs = search needs
 
-abbrev μ-loop : tie.MeasureT-loop
-μ-loop none w x y₀ rest₀ y rest = rest
-
-loop-holds : tie.Need-loop-holds Inv-loop μ-loop
-loop-holds c = (omega arith, λ j l. refl)
-
-lowest-requires : tie.Need-lowest-requires Inv-loop μ-loop
-lowest-requires c κs = omega arith
-
-at-requires : tie.Need-at-requires Inv-loop μ-loop
-at-requires c κs =
-    let h = c .before .before .loop in
-    lowest-small (h .rest) (h .inv .0) (c .before .loop-test .taken) _ (c .lowest .ensures)
-
-sub-rest : tie.Need-sub-rest Inv-loop μ-loop
-sub-rest c = omega arith
-
-loop-less : tie.Need-loop-less Inv-loop μ-loop
-loop-less c =
-    let h = c .before .before .before .loop in
-    rest-less (h .rest) (h .inv .0) (c .before .before .loop-test .taken) _ (c .before .lowest .ensures)
-
-loop-again : tie.Need-loop-again Inv-loop μ-loop
-loop-again c =
-    let h = c .before .before .before .loop in
-    let z = c .before .before .loop-test .taken in
-    let a = c .before .lowest in
-    let k = rest-less (h .rest) (h .inv .0) z _ (a .ensures) in (
-      omega (arith, k),
-      λ j l. h .inv .1 j l ∙ none-turn (h .rest) (h .inv .0) z _ (a .ensures) _ (c .at .result) (c .at .ensures) (h .y) j l (omega (arith, c .at .ok)),
-    )
-
-returns : tie.Need-returns Inv-loop μ-loop
-returns c =
-    let h = c .before .loop in
-    λ j l. sym (h .inv .1 j l ∙ none-end (h .rest) _ (has (h .y) j) (c .loop-test .left))
+returns : tie.Need-returns
+returns c = let a = c .before .args in λ j l. c .in-each .ensures j l ∙ each-none (a .none) (column (now (a .w)) j) j (has (a .x) j) l
 
 pub none-in-spec : {M : Type 1} → statement M
-none-in-spec =
-    tie.close
-    (tie.spec
-    Inv-loop
-    μ-loop
-    loop-holds
-    lowest-requires
-    at-requires
-    sub-rest
-    loop-less
-    loop-again
-    returns)
+none-in-spec = tie.close (tie.spec in-each-requires returns)
