@@ -8,7 +8,8 @@
    - and-index for the clearing, both indexes in two levels; best sets reached by climbing are not searched again;
    - pick first tries the lowest answer set, filling only the blocks needed; four sets or fewer are compared one by one. */
 #ifndef CORE
-typedef unsigned char u8; typedef unsigned short u16; typedef unsigned int u32; typedef unsigned long u64; typedef unsigned long size_t;
+#include "limit.h"
+typedef uint8_t u8; typedef uint16_t u16; typedef uint32_t u32; typedef unsigned long u64;
 #ifndef FIX
 #define FIX 1
 #endif

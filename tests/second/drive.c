@@ -487,10 +487,11 @@ static void ask_refused(void) {
     ask_displays(2);
 }
 
-/* The entries are spoilt first, so that those of the call before do not pass for this one's. */
+/* The entries are spoilt first, so that those of the call before do not pass for this one's. Room for one too few is refused. */
 static int limit_differs(List list, const uint16_t *sets, int count) {
     static uint16_t found[65536];
     for (int i = 0; i < count; i++) found[i] = (uint16_t)~sets[i];
+    if (count && list(page.copy, page.length, page.flags, found, (size_t)count - 1) != 11 * 65536) return 1;
     return list(page.copy, page.length, page.flags, found, 65536) != (uint32_t)count || memcmp(found, sets, (size_t)count * sizeof *sets) != 0;
 }
 
