@@ -87,7 +87,7 @@ means() {
     2) echo "page fault: the form, which is the first two bytes of the page, is not 1" ;;
     3) echo "page fault: a count is out of range; there may be 1 to 16 atoms, 0 to 32 rows, 0 to 704 literals and 0 to 8 pairs" ;;
     4) echo "page fault: an offset or the length in the header does not fit the counts, or the file is longer or shorter than the header says" ;;
-    5) echo "page fault: a row has over 6 alternatives, a body list over 8 atoms, a fourth byte that is not 0, or the rows do not use up the literals" ;;
+    5) echo "page fault: a row has over 6 alternatives, a body list over 8 atoms, a fourth byte that is not 0, or the counts of the rows do not add up to the number of literals" ;;
     6) echo "page fault: a row or a pair names an atom that the page does not have" ;;
     7) echo "page fault: a body list does not rise; each atom has to be above the one before it" ;;
     8) echo "page fault: a pair is not in order, the pairs do not rise, or an atom stands in two of them" ;;

@@ -19,7 +19,7 @@ pub fn row_from(page: &[u8], n: u16, place: u32) -> Row
     ensures { λ r. ⌜ r ≡ means.rowFrom (now (page .entry)) n place ⌝ }
 {
     let at = 18 + 4 * (n as usize);
-    // One test for the row's four bytes, where the page has them all.
+    // One test for the row's counts, where the page has the whole row.
     if at + 3 < page.len() {
         let head = page[at];
         let pos = page[at + 1];
