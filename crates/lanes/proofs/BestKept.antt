@@ -39,9 +39,13 @@ module _ (over : ℕ → ℕ → Bool) (q : ℕ → Bool) where
   unbeaten-best s t f =
       both (q s) (noneOver over (allFrom q 0) s) t (says-none over (allFrom q 0) s (λ y m o. let i = in-all q y m in f y (i .0) (i .1) o))
 
+-- ---- what is asked of the relation
+pub record Strict (over : ℕ → ℕ → Bool) : Type 0 where
+  pub never : (x : ℕ) → T (over x x) → ⊥
+  pub onward : (x y z : ℕ) → T (over x y) → T (over y z) → T (over x z)
+
 -- ---- p is what is left of q
-module _ (over : ℕ → ℕ → Bool) (irr : (x : ℕ) → T (over x x) → ⊥) (tr : (x y z : ℕ) → T (over x y) → T (over y z) → T (over x z)) (q p : ℕ → Bool)
-    (less : (s : ℕ) → T (p s) → T (q s)) (kept : (s : ℕ) → T (bestAmong over q s) → T (p s)) where
+module _ (over : ℕ → ℕ → Bool) (o : Strict over) (q p : ℕ → Bool) (less : (s : ℕ) → T (p s) → T (q s)) (kept : (s : ℕ) → T (bestAmong over q s) → T (p s)) where
   -- nothing that is left is preferred to s, which is left: then it is best of all
   pub kept-best : (s : ℕ) → s < 65536 → T (p s) → ((y : ℕ) → y < 65536 → T (p y) → T (over y s) → ⊥) → T (bestAmong over q s)
   unfolding bestAmong bestOf
@@ -50,14 +54,14 @@ module _ (over : ℕ → ℕ → Bool) (irr : (x : ℕ) → T (over x x) → ⊥
       go : (a : Bool) → noneOver over (allFrom q 0) s ≡ a → T (bestAmong over q s)
       go true e = both (q s) (noneOver over (allFrom q 0) s) (less s t) (true-yes e)
       go false e =
-          let b = best-above over irr tr (allFrom q 0) s (all-in q s l (less s t)) (false-no e) in
+          let b = best-above over (o .never) (o .onward) (allFrom q 0) s (all-in q s l (less s t)) (false-no e) in
           let k = in-keep (noneOver over (allFrom q 0)) (allFrom q 0) (b .0) (b .1 .0) in
           let i = in-all q (b .0) (k .0) in
           absurd (f (b .0) (i .0) (kept (b .0) (both (q (b .0)) (noneOver over (allFrom q 0) (b .0)) (i .1) (k .1))) (b .1 .1))
 
   -- the best of what is left are the best of all
   pub best-kept : (s : ℕ) → T (bestAmong over q s) → T (bestAmong over p s)
-  best-kept s t = unbeaten-best over p s (kept s t) (λ y l u o. best-unbeaten over q s y l (less y u) o t)
+  best-kept s t = unbeaten-best over p s (kept s t) (λ y l u v. best-unbeaten over q s y l (less y u) v t)
 
   pub same-best : (s : ℕ) → s < 65536 → T (bestAmong over p s) → T (bestAmong over q s)
-  same-best s l t = kept-best s l (best-passes over p s t) (λ y k u o. best-unbeaten over p s y k u o t)
+  same-best s l t = kept-best s l (best-passes over p s t) (λ y k u v. best-unbeaten over p s y k u v t)

@@ -1,17 +1,17 @@
 -- The rows of degree 1 as a word, bit n for row n: of one set, and of all lanes of a block together. A set that is over M has degree 1 wherever M has,
 -- so where M's word is no part of the block's, no lane of the block is over M; and none is where M's word has every row. Assumes nothing.
 use mathlib.Core.Path.{_≡_, refl, sym, ap, _∙_, subst}
-use mathlib.Core.Bool.{Bool, false, _&&_, _||_, not}
+use mathlib.Core.Bool.{Bool, false, _&&_, _||_}
 use mathlib.Core.Logic.{⊎-elim}
 use mathlib.Core.List.{List, [], _∷_, map, List·Memᴰ, List·Memᴰ·head, List·Memᴰ·tail, List·Memᴰ·cases-cons}
-use Prim.Native.Nat.{ℕ, zero, suc, _+_, _*_, _-_, _%_, _^_, _<_}
+use Prim.Native.Nat.{ℕ, zero, suc, _+_, _*_, _%_, _^_, _<_}
 use native.Mathlib.Nat.{one-mul}
 use native.Mathlib.Decide.{ℕ-discrete}
 use native.Mathlib.Omega.{arith}
 use lib.Bits.{bitAnd, bitOr}
 use lib.Dec.{T, eqb, ltb, eqb→eq, lt→ltb, ltb→lt}
 use lib.ListN.{length, getD}
-use lib.Pow.{shl-exact, pow-pos}
+use lib.Pow.{shl-exact}
 use lib.Seq.{getD-take}
 use borrow.Author.Tests.{eq-eqb}
 use Rattle.atoms.specs.Atoms.{has, inside}
@@ -22,7 +22,7 @@ use Rattle.lpod.specs.Degree.{degree}
 use Rattle.words.specs.Coded.{ruleIn, rulesIn}
 use Rattle.lanes.specs.Lanes.{Says}
 use Rattle.lanes.specs.Rank.{over, Grades}
-use Rattle.lanes.proofs.Words.{has-complement}
+use Rattle.lanes.specs.Left.{Firsts}
 use Rattle.lanes.proofs.RankedRows.{over-first, over-none}
 
 -- ---- one bit more in a word of 32
@@ -127,13 +127,20 @@ unfolding rulesIn
 in-rows [] r m = elim m [ ]
 in-rows (w ∷ rows) r m = ⊎-elim (λ e. (0, (omega arith, e))) (λ i. let x = in-rows rows r i in (suc (x .0), (omega (arith, x .1 .0), x .1 .1))) (List·Memᴰ·cases-cons m)
 
-module _ (rows grades : List ℕ) (M : ℕ) (g : Grades rows grades M) (k : ℕ) (f : FirstTo grades (length rows) k) where
+-- the word of all rows of degree 1, and the empty word
+pub firsts-all : (rows grades : List ℕ) (k : ℕ) → FirstTo grades (length rows) k → Firsts rows grades k
+firsts-all rows grades k f = record {
+  each = λ i t. let u : T (ltb i (length rows) && eqb (getD grades i 0) 1) = subst T (f i) t in
+      (ltb→lt i (length rows) (and-l (ltb i (length rows)) (eqb (getD grades i 0) 1) u), eqb→eq (getD grades i 0) 1 (and-r (ltb i (length rows)) (eqb (getD grades i 0) 1) u));
+}
+
+pub firsts-zero : (rows grades : List ℕ) → Firsts rows grades 0
+firsts-zero rows grades = record { each = λ i t. absurd (subst T (has-zero i) t) }
+
+module _ (rows grades : List ℕ) (M : ℕ) (g : Grades rows grades M) (k : ℕ) (f : Firsts rows grades k) where
   -- bit n of M's word says that row n has degree 1 in M
   first-degree : (n : ℕ) → T (has k n) → (n < length rows) × (degree M (ruleIn (getD rows n 0)) ≡ 1)
-  first-degree n t =
-      let u : T (ltb n (length rows) && eqb (getD grades n 0) 1) = subst T (f n) t in
-      let h = ltb→lt n (length rows) (and-l (ltb n (length rows)) (eqb (getD grades n 0) 1) u) in
-      (h, sym (grade-at rows grades M g n h) ∙ eqb→eq (getD grades n 0) 1 (and-r (ltb n (length rows)) (eqb (getD grades n 0) 1) u))
+  first-degree n t = let u = f .each n t in (u .0, sym (grade-at rows grades M g n (u .0)) ∙ u .1)
 
   -- the block is skipped
   pub skip : (b among x : ℕ) → FirstsTo rows b among (length rows) x → (T (inside k x) → ⊥) → (j : ℕ) → j < 64 → T (has among j) → over rows (64 * b + j) M ≡ false
@@ -145,8 +152,3 @@ module _ (rows grades : List ℕ) (M : ℕ) (g : Grades rows grades M) (k : ℕ)
   -- M has degree 1 in every row
   pub none-over : ((n : ℕ) → n < length rows → T (has k n)) → (s : ℕ) → over rows s M ≡ false
   none-over a s = over-none rows s M (λ r m. let x = in-rows rows r m in rw (x .1 .1) (first-degree (x .0) (a (x .0) (x .1 .0)) .1))
-
-  pub all-first : k ≡ 2 ^ length rows - 1 → (s : ℕ) → over rows s M ≡ false
-  all-first e = none-over (λ n h.
-      let z : 2 ^ length rows - 1 ≡ 2 ^ length rows - 1 - 0 = omega arith in
-      true-yes (ap (λ (a : ℕ). has a n) (e ∙ z) ∙ has-complement (length rows) 0 n (pow-pos (length rows)) h ∙ ap not (has-zero n)))

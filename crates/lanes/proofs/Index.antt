@@ -62,7 +62,7 @@ index-full rows index marks h e l b n j lb ln lj t d =
     ∙ has-complement 32 0 n (omega arith) (omega arith) ∙ ap not (has-zero n))
 
 -- ---- marks that are lost change nothing
-pub index-fewer : (rows index marks fewer : List ℕ) → length fewer ≡ length marks → ((s : ℕ) → T (marked fewer s) → T (marked marks s)) → Index rows index marks → Index rows index fewer
+index-fewer : (rows index marks fewer : List ℕ) → length fewer ≡ length marks → ((s : ℕ) → T (marked fewer s) → T (marked marks s)) → Index rows index marks → Index rows index fewer
 index-fewer rows index marks fewer q f g b n j l m k t e =
     g b n j (omega arith) m k (subst T (marked-at marks b j k) (f (64 * b + j) (subst T (sym (marked-at fewer b j k)) t))) e
 
@@ -79,24 +79,17 @@ searched-left rows index marks fewer low high q f h = record {
 
 -- ---- the lanes of a block that are marked and preferred to M
 module _ (rows marks : List ℕ) (b M : ℕ) where
-  rival-says : (x : ℕ) → ((j : ℕ) → j < 64 → has x j ≡ (has (getD marks b 0) j && over rows (64 * b + j) M)) → Says b x (rival rows marks M)
+  rival-says : (x : ℕ) → ((j : ℕ) → j < 64 → has x j ≡ (has (getD marks b 0) j && over rows (64 * b + j) M)) → Says b x (rival (over rows) marks M)
   rival-says x f j l = f j l ∙ ap (λ (a : Bool). a && over rows (64 * b + j) M) (sym (marked-at marks b j l))
 
-  none-says : ((j : ℕ) → j < 64 → T (has (getD marks b 0) j) → T (over rows (64 * b + j) M) → ⊥) → Says b 0 (rival rows marks M)
-  none-says f =
-      rival-says 0 (λ j l. has-zero j ∙ sym (no-false (has (getD marks b 0) j && over rows (64 * b + j) M) (λ t.
-      f j l (and-l (has (getD marks b 0) j) (over rows (64 * b + j) M) t) (and-r (has (getD marks b 0) j) (over rows (64 * b + j) M) t))))
-
-  -- the word is 0; or the rows of degree 1 are no part of the index word
-  pub none-marked : getD marks b 0 ≡ 0 → Says b 0 (rival rows marks M)
-  none-marked z = none-says (λ j l t o. subst T (ap (λ (x : ℕ). has x j) z ∙ has-zero j) t)
-
+  -- the rows of degree 1 are no part of the index word
   pub none-first : (grades index : List ℕ) (first : ℕ) → Grades rows grades M → Firsts rows grades first → Index rows index marks → b < length marks
-      → (bitAnd first (getD index b 0) ≡ first → ⊥) → Says b 0 (rival rows marks M)
+      → (bitAnd first (getD index b 0) ≡ first → ⊥) → Says b 0 (rival (over rows) marks M)
   unfolding inside
   none-first grades index first g f i l n =
-      none-says (λ j k t o.
-      false-no (skip rows grades M g first f b (getD marks b 0) (getD index b 0) (λ m j h. i b m j l h) (λ u. n (eqb→eq (bitAnd first (getD index b 0)) first u)) j k t) o)
+      rival-says 0 (λ j k. has-zero j ∙ sym (no-false (has (getD marks b 0) j && over rows (64 * b + j) M) (λ t.
+      false-no (skip rows grades M g first f b (getD marks b 0) (getD index b 0) (λ m j h. i b m j l h) (λ u. n (eqb→eq (bitAnd first (getD index b 0)) first u)) j k
+      (and-l (has (getD marks b 0) j) (over rows (64 * b + j) M) t)) (and-r (has (getD marks b 0) j) (over rows (64 * b + j) M) t))))
 
 -- ---- all lanes of a block but m's own
 module _ (among b m j : ℕ) (l : j < 64) where
@@ -114,27 +107,21 @@ module _ (among b m j : ℕ) (l : j < 64) where
       (λ t. let q = eqb→eq j (m % 64) t in true-yes (eq-eqb (64 * b + j) m (omega arith)))
       (λ t. let q = eqb→eq (64 * b + j) m t in true-yes (eq-eqb j (m % 64) (omega arith)))))
 
-  -- no set is preferred to itself: so its own lane may be left out
-  module _ (rows : List ℕ) (rest : ℕ) (e : has rest j ≡ (has among j && not (eqb (64 * b + j) m))) where
-    same-but : (o : Bool) → (64 * b + j ≡ m → T o → ⊥) → (has rest j && o) ≡ (has among j && o)
-    same-but o n = ap (λ (c : Bool). c && o) e ∙ go (has among j) (eqb (64 * b + j) m) refl
-      where
-        go : (a d : Bool) → eqb (64 * b + j) m ≡ d → ((a && not d) && o) ≡ (a && o)
-        go false d q = refl
-        go true true q = sym (no-false o (n (eqb→eq (64 * b + j) m (true-yes q))))
-        go true false q = refl
-
-    pub others-over : (has rest j && over rows (64 * b + j) m) ≡ (has among j && over rows (64 * b + j) m)
-    others-over = same-but (over rows (64 * b + j) m) (λ q t. over-irreflexive rows m (subst (λ (s : ℕ). T (over rows s m)) q t))
-
-    pub others-under : (has rest j && over rows m (64 * b + j)) ≡ (has among j && over rows m (64 * b + j))
-    others-under = same-but (over rows m (64 * b + j)) (λ q t. over-irreflexive rows m (subst (λ (s : ℕ). T (over rows m s)) q t))
-
+-- no set is preferred to itself: so its own lane may be left out
 module _ (rows marks : List ℕ) (b m rest : ℕ) (e : (j : ℕ) → j < 64 → has rest j ≡ (has (getD marks b 0) j && not (eqb (64 * b + j) m))) where
-  pub some-others : (x : ℕ) → ((j : ℕ) → j < 64 → has x j ≡ (has rest j && over rows (64 * b + j) m)) → Says b x (rival rows marks m)
-  some-others x f = rival-says rows marks b m x (λ j l. f j l ∙ others-over (getD marks b 0) b m j l rows rest (e j l))
+  others-over : (j : ℕ) → j < 64 → (has rest j && over rows (64 * b + j) m) ≡ (has (getD marks b 0) j && over rows (64 * b + j) m)
+  others-over j l = ap (λ (c : Bool). c && over rows (64 * b + j) m) (e j l) ∙ go (has (getD marks b 0) j) (eqb (64 * b + j) m) refl
+    where
+      go : (a d : Bool) → eqb (64 * b + j) m ≡ d → ((a && not d) && over rows (64 * b + j) m) ≡ (a && over rows (64 * b + j) m)
+      go false d q = refl
+      go true true q =
+          sym (no-false (over rows (64 * b + j) m) (λ t. over-irreflexive rows m (subst (λ (s : ℕ). T (over rows s m)) (eqb→eq (64 * b + j) m (true-yes q)) t)))
+      go true false q = refl
 
-  pub none-others : rest ≡ 0 → Says b 0 (rival rows marks m)
+  pub some-others : (x : ℕ) → ((j : ℕ) → j < 64 → has x j ≡ (has rest j && over rows (64 * b + j) m)) → Says b x (rival (over rows) marks m)
+  some-others x f = rival-says rows marks b m x (λ j l. f j l ∙ others-over j l)
+
+  pub none-others : rest ≡ 0 → Says b 0 (rival (over rows) marks m)
   none-others z = some-others 0 (λ j l. has-zero j ∙ sym (ap (λ (c : Bool). c && over rows (64 * b + j) m) (ap (λ (y : ℕ). has y j) z ∙ has-zero j)))
 
 -- w is the word of s's block without s
@@ -154,7 +141,7 @@ unmarked marks s w l f x = go (ℕ-discrete (x / 64) (s / 64))
 
 -- every row has degree 1 in M
 pub no-rival : (rows grades marks : List ℕ) (M first : ℕ) → Grades rows grades M → Firsts rows grades first → ((n : ℕ) → n < length rows → T (has first n))
-    → (s : ℕ) → T (rival rows marks M s) → ⊥
+    → (s : ℕ) → T (rival (over rows) marks M s) → ⊥
 no-rival rows grades marks M first g f a s t = false-no (none-over rows grades M g first f a s) (and-r (marked marks s) (over rows s M) t)
 
 -- ---- where a marked set stands

@@ -1,13 +1,13 @@
 -- Degrees and their comparison, in one lane: the lanes in which a row has one degree, the lanes whose rows of one degree hold those of a graded set or
 -- are among those, and the first degree at which the two differ. Once no lane is left in which all is equal, no later degree decides. Assumes nothing.
-use mathlib.Core.Path.{_≡_, refl, sym, ap, _∙_, subst}
-use mathlib.Core.Bool.{Bool, true, false, _&&_, _||_, not, cond, and-assoc, and-true, or-true, or-false}
+use mathlib.Core.Path.{_≡_, refl, sym, ap, _∙_}
+use mathlib.Core.Bool.{Bool, true, false, _&&_, _||_, not, cond, and-assoc, and-comm, and-true, or-true, or-false}
 use mathlib.Core.List.{List, [], _∷_, _++_, map}
 use Prim.Native.Nat.{ℕ, zero, suc, _+_, _-_, _*_, _/_, _%_, _≤_, _<_, max}
 use native.Mathlib.Decide.{decLt}
 use native.Mathlib.Numerals.{add-one}
 use native.Mathlib.Omega.{arith}
-use lib.Bits.{bitAnd, bitOr}
+use lib.Bits.{bitAnd, bitOr, and-le-r}
 use lib.Dec.{T, eqb}
 use lib.ListN.{length, getD, drop}
 use borrow.Author.Tests.{eq-eqb, ne-eqb}
@@ -269,23 +269,28 @@ module _ (w : ℕ → ℕ → ℕ → Bool) (S N : ℕ) where
       from : T (firstMore w n S N) → T (firstMore w m S N)
       from t = let x = first-says w n S N .0 t in first-says w m S N .1 (x .0, omega (arith, x .1), x .2)
 
-  -- one lane of the two words that the loop carries
-  module _ (among same won u v j n k : ℕ) (hk : k ≡ n + 1) (hu : has u j ≡ w k S N) (hv : has v j ≡ w k N S) (he : has same j ≡ (has among j && equalTo n)) where
-    same-turn : has (bitAnd (bitAnd same u) v) j ≡ (has among j && equalTo k)
+  -- one lane of the words that the loop carries: u and v among the lanes in which all is equal so far
+  module _ (among same u v j n k : ℕ) (hk : k ≡ n + 1) (hu : has u j ≡ w k S N) (hv : has v j ≡ w k N S) (he : has same j ≡ (has among j && equalTo n)) where
+    same-turn : has (bitAnd (bitAnd same u) (bitAnd same v)) j ≡ (has among j && equalTo k)
     same-turn =
-        has-and (bitAnd same u) v j ∙ ap (λ (c : Bool). c && has v j) (has-and same u j) ∙ rw (he, hu, hv, hk, add-one n)
-        (and-assoc (has among j && equalTo n) (w (suc n) S N) (w (suc n) N S) ∙ and-assoc (has among j) (equalTo n) (w (suc n) S N && w (suc n) N S)
-        ∙ ap (λ (c : Bool). has among j && c) (sym (equal-next n)))
-
-    won-turn : v ≤ full → j < 64 → has won j ≡ (has among j && firstMore w n S N)
-        → has (bitOr won (bitAnd (bitAnd same u) (full - v))) j ≡ (has among j && firstMore w k S N)
-    won-turn h l hf =
-        has-or won (bitAnd (bitAnd same u) (full - v)) j
-        ∙ ap (λ (c : Bool). has won j || c) (has-and (bitAnd same u) (full - v) j ∙ ap (λ (c : Bool). c && has (full - v) j) (has-and same u j))
-        ∙ rw (has-not v j h l, he, hf, hu, hv, hk, add-one n)
-        (go (has among j) (firstMore w n S N) (equalTo n) (w (suc n) S N) (not (w (suc n) N S)) ∙ ap (λ (c : Bool). has among j && c) (sym (more-next n)))
+        has-and (bitAnd same u) (bitAnd same v) j ∙ rw (has-and same u j, has-and same v j, he, hu, hv, hk, add-one n)
+        (go (has among j) (equalTo n) (w (suc n) S N) (w (suc n) N S) ∙ ap (λ (c : Bool). has among j && c) (sym (equal-next n)))
       where
-        go : (a f e x y : Bool) → ((a && f) || (((a && e) && x) && y)) ≡ (a && (f || ((x && y) && e)))
+        go : (a e x y : Bool) → (((a && e) && x) && ((a && e) && y)) ≡ (a && (e && (x && y)))
+        go false e x y = refl
+        go true false x y = refl
+        go true true false y = refl
+        go true true true y = refl
+
+    won-turn : (won : ℕ) → v ≤ full → j < 64 → has won j ≡ (has among j && firstMore w n S N)
+        → has (bitOr won (bitAnd (bitAnd same u) (full - bitAnd same v))) j ≡ (has among j && firstMore w k S N)
+    won-turn won h l hf =
+        has-or won (bitAnd (bitAnd same u) (full - bitAnd same v)) j
+        ∙ ap (λ (c : Bool). has won j || c) (has-and (bitAnd same u) (full - bitAnd same v) j)
+        ∙ rw (has-not (bitAnd same v) j (let z = and-le-r same v in omega (arith, h, z)) l, has-and same u j, has-and same v j, he, hf, hu, hv, hk, add-one n)
+        (go (has among j) (firstMore w n S N) (equalTo n) (w (suc n) S N) (w (suc n) N S) ∙ ap (λ (c : Bool). has among j && c) (sym (more-next n)))
+      where
+        go : (a f e x y : Bool) → ((a && f) || (((a && e) && x) && not ((a && e) && y))) ≡ (a && (f || ((x && not y) && e)))
         go false f e x y = refl
         go true true e x y = refl
         go true false true true true = refl
@@ -316,46 +321,72 @@ module _ (w : ℕ → ℕ → ℕ → Bool) (S N : ℕ) where
       go true e = sym (more-stays n m h e)
       go false e = refl
 
--- ---- in all lanes: S and N say which of the lane's set and the graded set M is to come before the other
-abbrev pub RankedTo : List ℕ → List ℕ → ℕ → ℕ → (ℕ → ℕ → ℕ) → (ℕ → ℕ → ℕ) → ℕ → ℕ → ℕ → Type 0
-RankedTo rows grades b among S N n same won =
-    (M : ℕ) → Grades rows grades M → (j : ℕ) → j < 64
-    → (has same j ≡ (has among j && equalTo (within (rulesIn rows)) (S (64 * b + j) M) (N (64 * b + j) M) n))
-    × (has won j ≡ (has among j && firstMore (within (rulesIn rows)) n (S (64 * b + j) M) (N (64 * b + j) M)))
+-- equal one way is equal the other way
+equal-back : (w : ℕ → ℕ → ℕ → Bool) (S N n : ℕ) → equalTo w S N n ≡ equalTo w N S n
+unfolding equalTo every numbers
+equal-back w S N zero = refl
+equal-back w S N (suc n) =
+    equal-next w S N n ∙ ap (λ (c : Bool). c && (w (suc n) S N && w (suc n) N S)) (equal-back w S N n)
+    ∙ ap (λ (c : Bool). equalTo w N S n && c) (and-comm (w (suc n) S N) (w (suc n) N S)) ∙ sym (equal-next w N S n)
 
-module _ (rows grades : List ℕ) (b among : ℕ) (S N : ℕ → ℕ → ℕ) where
-  pub rank-start : RankedTo rows grades b among S N 0 among 0
-  rank-start M g j l =
-      (same-start (within (rulesIn rows)) (S (64 * b + j) M) (N (64 * b + j) M) among j, won-start (within (rulesIn rows)) (S (64 * b + j) M) (N (64 * b + j) M) among j)
+-- ---- in all lanes: the lane's set and the graded set M, both ways
+abbrev pub ComparedTo : List ℕ → List ℕ → ℕ → ℕ → ℕ → ℕ → ℕ → ℕ → Type 0
+ComparedTo rows grades b among n same won lost =
+    (M : ℕ) → Grades rows grades M → (j : ℕ) → j < 64
+    → (has same j ≡ (has among j && equalTo (within (rulesIn rows)) (64 * b + j) M n))
+    × (has won j ≡ (has among j && firstMore (within (rulesIn rows)) n (64 * b + j) M))
+    × (has lost j ≡ (has among j && firstMore (within (rulesIn rows)) n M (64 * b + j)))
+
+module _ (rows grades : List ℕ) (b among : ℕ) where
+  pub compare-start : ComparedTo rows grades b among 0 among 0 0
+  compare-start M g j l =
+      let w = within (rulesIn rows) in
+      let s = 64 * b + j in
+      (same-start w s M among j, won-start w s M among j, won-start w M s among j)
+
+  back : (same j M n : ℕ) → has same j ≡ (has among j && equalTo (within (rulesIn rows)) (64 * b + j) M n)
+      → has same j ≡ (has among j && equalTo (within (rulesIn rows)) M (64 * b + j) n)
+  back same j M n e = e ∙ ap (λ (c : Bool). has among j && c) (equal-back (within (rulesIn rows)) (64 * b + j) M n)
 
   -- the degrees before k are done, and u and v are the words of k
-  module _ (k same won u v : ℕ) (K : 1 ≤ k) (h : v ≤ full)
-      (up : (M : ℕ) → Grades rows grades M → Says b u (λ s. within (rulesIn rows) k (S s M) (N s M)))
-      (down : (M : ℕ) → Grades rows grades M → Says b v (λ s. within (rulesIn rows) k (N s M) (S s M))) where
-    pub rank-turn : RankedTo rows grades b among S N (k - 1) same won
-        → RankedTo rows grades b among S N (k + 1 - 1) (bitAnd (bitAnd same u) v) (bitOr won (bitAnd (bitAnd same u) (full - v)))
-    rank-turn R = subst (λ (n : ℕ). RankedTo rows grades b among S N n (bitAnd (bitAnd same u) v) (bitOr won (bitAnd (bitAnd same u) (full - v)))) next at-k
-      where
-        next : k ≡ k + 1 - 1
-        next = omega arith
-
-        at-k : RankedTo rows grades b among S N k (bitAnd (bitAnd same u) v) (bitOr won (bitAnd (bitAnd same u) (full - v)))
-        at-k M g j l =
-            let x = S (64 * b + j) M in
-            let y = N (64 * b + j) M in (
-              same-turn (within (rulesIn rows)) x y among same won u v j (k - 1) k (omega arith) (up M g j l) (down M g j l) (R M g j l .0),
-              won-turn (within (rulesIn rows)) x y among same won u v j (k - 1) k (omega arith) (up M g j l) (down M g j l) (R M g j l .0) h l (R M g j l .1),
-            )
+  pub compare-turn : (k same won lost u v : ℕ) → 1 ≤ k → u ≤ full → v ≤ full
+      → ((M : ℕ) → Grades rows grades M → Says b u (λ s. within (rulesIn rows) k s M) × Says b v (λ s. within (rulesIn rows) k M s))
+      → ComparedTo rows grades b among (k - 1) same won lost
+      → ComparedTo rows grades b among (k + 1 - 1) (bitAnd (bitAnd same u) (bitAnd same v)) (bitOr won (bitAnd (bitAnd same u) (full - bitAnd same v)))
+      (bitOr lost (bitAnd (bitAnd same v) (full - bitAnd same u)))
+  compare-turn k same won lost u v K hu hv at R M g j l =
+      let w = within (rulesIn rows) in
+      let s = 64 * b + j in
+      let z : k + 1 - 1 ≡ k = omega arith in
+      let e : k ≡ k - 1 + 1 = omega arith in
+      let x = at M g .0 j l in
+      let y = at M g .1 j l in
+      let r = R M g j l in
+      rw z (
+        same-turn w s M among same u v j (k - 1) k e x y (r .0),
+        won-turn w s M among same u v j (k - 1) k e x y (r .0) won hv l (r .1),
+        won-turn w M s among same v u j (k - 1) k e y x (back same j M (k - 1) (r .0)) lost hu l (r .2),
+      )
 
   -- every degree is done, or no lane is left in which all is equal
-  pub rank-end : (n same won : ℕ) → n ≡ longest (rulesIn rows) → RankedTo rows grades b among S N n same won
-      → (M : ℕ) → Grades rows grades M → (j : ℕ) → j < 64 → has won j ≡ (has among j && over rows (S (64 * b + j) M) (N (64 * b + j) M))
-  unfolding over
-  rank-end n same won e R M g j l =
-      R M g j l .1 ∙ ap (λ (m : ℕ). has among j && firstMore (within (rulesIn rows)) m (S (64 * b + j) M) (N (64 * b + j) M)) e
+  abbrev Ended : ℕ → ℕ → Type 0
+  Ended won lost =
+      (M : ℕ) → Grades rows grades M → (j : ℕ) → j < 64
+      → (has won j ≡ (has among j && over rows (64 * b + j) M)) × (has lost j ≡ (has among j && over rows M (64 * b + j)))
 
-  pub rank-stop : (n same won : ℕ) → n ≤ longest (rulesIn rows) → same ≡ 0 → RankedTo rows grades b among S N n same won
-      → (M : ℕ) → Grades rows grades M → (j : ℕ) → j < 64 → has won j ≡ (has among j && over rows (S (64 * b + j) M) (N (64 * b + j) M))
+  pub compare-end : (n same won lost : ℕ) → n ≡ longest (rulesIn rows) → ComparedTo rows grades b among n same won lost → Ended won lost
   unfolding over
-  rank-stop n same won h z R M g j l =
-      won-stop (within (rulesIn rows)) (S (64 * b + j) M) (N (64 * b + j) M) among same won j n (longest (rulesIn rows)) h z (R M g j l .0) (R M g j l .1)
+  compare-end n same won lost e R M g j l =
+      let w = within (rulesIn rows) in
+      let s = 64 * b + j in
+      let r = R M g j l in
+      (r .1 ∙ ap (λ (m : ℕ). has among j && firstMore w m s M) e, r .2 ∙ ap (λ (m : ℕ). has among j && firstMore w m M s) e)
+
+  pub compare-stop : (n same won lost : ℕ) → n ≤ longest (rulesIn rows) → same ≡ 0 → ComparedTo rows grades b among n same won lost → Ended won lost
+  unfolding over
+  compare-stop n same won lost h z R M g j l =
+      let w = within (rulesIn rows) in
+      let s = 64 * b + j in
+      let m = longest (rulesIn rows) in
+      let r = R M g j l in
+      (won-stop w s M among same won j n m h z (r .0) (r .1), won-stop w M s among same lost j n m h z (back same j M n (r .0)) (r .2))

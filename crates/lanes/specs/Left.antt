@@ -4,7 +4,7 @@ use mathlib.Core.Path.{_≡_}
 use mathlib.Core.Bool.{Bool, _&&_}
 use mathlib.Core.List.{List}
 use Prim.Native.Nat.{ℕ, _+_, _*_, _≤_, _<_}
-use lib.Dec.{T, eqb, ltb}
+use lib.Dec.{T}
 use lib.ListN.{length, getD}
 use Rattle.atoms.specs.Atoms.{has, inside}
 use Rattle.lpod.specs.Degree.{degree}
@@ -13,7 +13,6 @@ use Rattle.words.specs.Coded.{ruleIn, rulesIn}
 use Rattle.lanes.specs.Lanes.{LowBodies}
 use Rattle.lanes.specs.Marks.{marked, Within}
 use Rattle.lanes.specs.Search.{soughtBest}
-use Rattle.lanes.specs.Rank.{over}
 
 -- ---- a word for each block: the rows that have degree 1 in a marked set of the block are among its bits
 abbrev pub Index : List ℕ → List ℕ → List ℕ → Type 0
@@ -21,9 +20,9 @@ Index rows index marks =
     (b n j : ℕ) → b < length marks → n < length rows → j < 64 → T (has (getD marks b 0) j) → degree (64 * b + j) (ruleIn (getD rows n 0)) ≡ 1
     → T (has (getD index b 0) n)
 
--- the rows of degree 1, by the degrees of one set
-abbrev pub Firsts : List ℕ → List ℕ → ℕ → Type 0
-Firsts rows grades first = (i : ℕ) → has first i ≡ (ltb i (length rows) && eqb (getD grades i 0) 1)
+-- rows of degree 1, by the degrees of one set
+pub record Firsts (rows grades : List ℕ) (first : ℕ) : Type 0 where
+  pub each : (i : ℕ) → T (has first i) → (i < length rows) × (getD grades i 0 ≡ 1)
 
 -- ---- rows that rank lanes, and marks that are searched
 pub record Ready (rows lows : List ℕ) (deepest : ℕ) : Type 0 where
@@ -40,18 +39,19 @@ pub record Searched (rows marks index : List ℕ) (low high : ℕ) : Type 0 wher
   pub between : Within marks low high
   pub firsts : Index rows index marks
 
--- s is marked, and preferred to M
-abbrev pub rival : List ℕ → List ℕ → ℕ → ℕ → Bool
-rival rows marks M s = marked marks s && over rows s M
+module _ (over : ℕ → ℕ → Bool) where
+  -- s is marked, and preferred to M
+  abbrev pub rival : List ℕ → ℕ → ℕ → Bool
+  rival marks M s = marked marks s && over s M
 
--- ---- no set has gained a mark, and no best set has lost it
-pub record Left (rows before after : List ℕ) : Type 0 where
-  pub same : length after ≡ length before
-  pub less : (s : ℕ) → T (marked after s) → T (marked before s)
-  pub best : (s : ℕ) → T (soughtBest (over rows) before s) → T (marked after s)
+  -- ---- no set has gained a mark, and no best set has lost it
+  pub record Left (before after : List ℕ) : Type 0 where
+    pub same : length after ≡ length before
+    pub less : (s : ℕ) → T (marked after s) → T (marked before s)
+    pub best : (s : ℕ) → T (soughtBest over before s) → T (marked after s)
 
--- of the sets from i on and below j, those to which M is preferred have lost their marks, and no other set has
-abbrev pub Cleared : List ℕ → ℕ → ℕ → ℕ → List ℕ → List ℕ → Type 0
-Cleared rows M i j before after =
-    (s : ℕ) → (T (marked after s) → T (marked before s) × (i ≤ s → s < j → T (over rows M s) → ⊥))
-    × (T (marked before s) → (i ≤ s → s < j → T (over rows M s) → ⊥) → T (marked after s))
+  -- no set has gained a mark, and only sets to which M is preferred have lost it
+  pub record Cleared (M : ℕ) (before after : List ℕ) : Type 0 where
+    pub same : length after ≡ length before
+    pub less : (s : ℕ) → T (marked after s) → T (marked before s)
+    pub kept : (s : ℕ) → T (marked before s) → (T (over M s) → ⊥) → T (marked after s)

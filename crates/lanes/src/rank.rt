@@ -133,54 +133,44 @@ fn at_degree(rows: &[u64], lows: &[u64], grades: &[u8], b: u16, w: &[u64; 16], k
     Level { up, down }
 }
 
-// The lanes of `among` that are preferred to the set that is graded.
-pub fn better(rows: &[u64], lows: &[u64], grades: &[u8], deepest: u8, b: u16, among: u64) -> u64
+// Of the lanes of `among`, those that are preferred to the set that is graded, and those to which it is.
+pub struct Compared {
+    pub won: u64,
+    pub lost: u64,
+}
+
+// Degree after degree, among the lanes in which all is equal so far.
+pub fn compare(
+    rows: &[u64],
+    lows: &[u64],
+    grades: &[u8],
+    deepest: u8,
+    b: u16,
+    among: u64,
+) -> Compared
     requires { ⌜ (b < 1024) × LowBodies (now rows) (now lows) × (length (now rows) ≤ length (now lows)) × (length (now rows) ≤ length (now grades)) × (deepest ≡ longest (rulesIn (now rows))) ⌝ }
-    ensures { λ r. ⌜ ((M : ℕ) → Grades (now (rows .entry)) (now (grades .entry)) M → (j : ℕ) → j < 64 → has r j ≡ (has among j && over (now (rows .entry)) (64 * b + j) M)) ⌝ }
+    ensures { λ r. ⌜ ((M : ℕ) → Grades (now (rows .entry)) (now (grades .entry)) M → (j : ℕ) → j < 64 → (has (r .won) j ≡ (has among j && over (now (rows .entry)) (64 * b + j) M)) × (has (r .lost) j ≡ (has among j && over (now (rows .entry)) M (64 * b + j)))) ⌝ }
 {
     let w = word::block_words(b);
     // A word may say that its head has 255 atoms: the count of degrees goes one further.
     let last = deepest as u16;
     let mut won: u64 = 0;
-    let mut same = among;
-    let mut k: u16 = 1;
-    while k <= last {
-        let l = at_degree(rows, lows, grades, b, &w, k as u8);
-        let up = l.up;
-        let down = l.down;
-        won = won | (same & up & !down);
-        same = same & up & down;
-        k += 1;
-        if same == 0 {
-            return won;
-        }
-    }
-    won
-}
-
-// The lanes of `among` to which the set that is graded is preferred.
-pub fn worse(rows: &[u64], lows: &[u64], grades: &[u8], deepest: u8, b: u16, among: u64) -> u64
-    requires { ⌜ (b < 1024) × LowBodies (now rows) (now lows) × (length (now rows) ≤ length (now lows)) × (length (now rows) ≤ length (now grades)) × (deepest ≡ longest (rulesIn (now rows))) ⌝ }
-    ensures { λ r. ⌜ ((M : ℕ) → Grades (now (rows .entry)) (now (grades .entry)) M → (j : ℕ) → j < 64 → has r j ≡ (has among j && over (now (rows .entry)) M (64 * b + j))) ⌝ }
-{
-    let w = word::block_words(b);
-    // A word may say that its head has 255 atoms: the count of degrees goes one further.
-    let last = deepest as u16;
     let mut lost: u64 = 0;
     let mut same = among;
     let mut k: u16 = 1;
     while k <= last {
         let l = at_degree(rows, lows, grades, b, &w, k as u8);
-        let up = l.up;
-        let down = l.down;
-        lost = lost | (same & down & !up);
-        same = same & down & up;
+        let up = same & l.up;
+        let down = same & l.down;
+        won = won | (up & !down);
+        lost = lost | (down & !up);
+        same = up & down;
         k += 1;
         if same == 0 {
-            return lost;
+            return Compared { won, lost };
         }
     }
-    lost
+    Compared { won, lost }
 }
 
 // Bit n where some lane of `among` has degree 1 in row n.

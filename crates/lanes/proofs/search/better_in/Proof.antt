@@ -1,61 +1,77 @@
--- `search::better_in` passes over a block with no marks, and one whose index lacks a row of degree 1; else it looks at the lanes but
--- m's own. Assumes nothing.
+-- `search::better_in` passes over a block whose index lacks a row of degree 1; else it looks at the lanes but m's own. Assumes nothing.
+use mathlib.Core.Path.{refl}
+use native.Mathlib.Omega.{arith}
 use borrow.Author.Needs.{needs}
 use denote.Ref.{now}
-use Rattle.lanes.proofs.Index.{none-marked, none-first, none-others, some-others}
+use Rattle.lanes.proofs.Index.{none-first, none-others, some-others}
+use Rattle.lanes.proofs.Clearing.{clear-none, clear-block}
 use Rattle.lanes.proofs.search.better_in.Statement.{statement}
 use Rattle.lanes.proofs.search.better_in.Tie as tie
 
-mul-among : tie.Need-mul-among
-mul-among c = search needs
+mul-if1 : tie.Need-mul-if1
+mul-if1 c = search needs
 
-shared-slice-read-among : tie.Need-shared-slice-read-among
-shared-slice-read-among c = search needs
+shared-slice-read-if1 : tie.Need-shared-slice-read-if1
+shared-slice-read-if1 c = search needs
 
 returns : tie.Need-returns
 returns c =
     let s = c .before .before .before .before .before .before .before in
-    none-marked (now (s .args .rows)) (now (s .args .marks)) (s .args .b) _ (c .if1 .taken)
+    let a = s .args in
+    let p = s .pre in
+    (none-first _ (now (a .marks)) (a .b) (a .m) (now (a .grades)) (now (a .index)) (a .first) (p .2) (p .3) (p .7) (p .5) (c .if1 .taken), clear-none _ _ _)
 
-mul-if2 : tie.Need-mul-if2
-mul-if2 c = search needs
+mul-among : tie.Need-mul-among
+mul-among c = search needs
 
-shared-slice-read-if2 : tie.Need-shared-slice-read-if2
-shared-slice-read-if2 c = search needs
-
-returns-2 : tie.Need-returns-2
-returns-2 c =
-    let s = c .before .before .before .before .before .before .before .before .before in
-    none-first _ (now (s .args .marks)) (s .args .b) (s .args .m) (now (s .args .grades)) (now (s .args .index)) (s .args .first) (s .pre .2) (s .pre .3) (s .pre .7) (s .pre .5) (c .if2 .taken)
+slice-read-among : tie.Need-slice-read-among
+slice-read-among c = search needs
 
 others-requires : tie.Need-others-requires
 others-requires c κs = search needs
 
+returns-2 : tie.Need-returns-2
+returns-2 c =
+    let a = c .before .before .before .before .before .before .before .before .before .before .args in
+    let o = c .before .others in
+    (none-others (now (a .rows)) (now (a .marks)) (a .b) (a .m) (o .result) (o .ensures) (c .if2 .taken), clear-none _ _ _)
+
+compare-requires : tie.Need-compare-requires
+compare-requires c κs = search needs
+
+mul-marks : tie.Need-mul-marks
+mul-marks c = search needs
+
+slice-write-marks : tie.Need-slice-write-marks
+slice-write-marks c = search needs
+
+same-length : tie.Need-same-length
+same-length c = search needs
+
 returns-3 : tie.Need-returns-3
 returns-3 c =
-    let s = c .before .before .before .before .before .before .before .before .before .before .before in
-    none-others (now (s .args .rows)) (now (s .args .marks)) (s .args .b) (s .args .m) (c .before .others .result) (c .before .others .ensures) (c .if3 .taken)
-
-better-requires : tie.Need-better-requires
-better-requires c κs = search needs
-
-returns-4 : tie.Need-returns-4
-returns-4 c =
     let s = c .before .before .before .before .before .before .before .before .before .before .before .before in
-    some-others _ (now (s .args .marks)) (s .args .b) (s .args .m) (c .before .before .others .result) (c .before .before .others .ensures) (c .better .result)
-    (c .better .ensures (s .args .m) (s .pre .2))
+    let a = s .args in
+    let o = c .before .before .before .others in
+    let r = c .before .compare in
+    let e = r .ensures (a .m) (s .pre .2) in (
+      some-others _ (now (a .marks)) (a .b) (a .m) (o .result) (o .ensures) (r .result .won) (λ j l. e j l .0),
+      clear-block _ (a .m) (now (a .marks)) (a .b) _ (r .result .lost) (o .result) (s .pre .5) refl (omega (arith, r .ok)) (λ j l. e j l .1),
+    )
 
 pub better-in-spec : {M : Type 1} → statement M
 better-in-spec =
     tie.close
     (tie.spec
-    mul-among
-    shared-slice-read-among
+    mul-if1
+    shared-slice-read-if1
     returns
-    mul-if2
-    shared-slice-read-if2
-    returns-2
+    mul-among
+    slice-read-among
     others-requires
-    returns-3
-    better-requires
-    returns-4)
+    returns-2
+    compare-requires
+    mul-marks
+    slice-write-marks
+    same-length
+    returns-3)

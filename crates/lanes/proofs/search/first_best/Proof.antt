@@ -11,24 +11,25 @@ use Rattle.lanes.proofs.search.first_best.Tie as tie
 first-requires : tie.Need-first-requires
 first-requires c κs = search needs
 
-slice-aggregate-settle : tie.Need-slice-aggregate-settle
-slice-aggregate-settle c = search needs
-
 settle-requires : tie.Need-settle-requires
 settle-requires c κs =
-    let a = c .before .before .before .before .before .before .before .before in
-    let m = c .before .before .first in
-    (a .pre .0, omega (arith, a .pre .0 .few), a .pre .1, stays _ 0 (m .result) (m .ensures) (omega arith), next-passes _ 0 (m .result) (m .ensures))
+    let p = c .before .before .before .before .before .before .before .pre in
+    let m = c .before .first in
+    (p .0, p .1, stays _ 0 (m .result) (m .ensures) (omega arith), next-passes _ 0 (m .result) (m .ensures))
 
 same-length : tie.Need-same-length
 same-length c = search needs
 
 returns : tie.Need-returns
 returns c =
-    let m = c .before .before .before .before .before .before .first in
-    let r = c .before .before .before .settle .ensures in
-    (r .0 ∙ sym (next-within _ _ (best-passes _ _) 0 (m .result) (m .ensures)), r .1)
+    let m = c .before .before .before .before .first in
+    c .before .before .settle .ensures .0 ∙ sym (next-within _ _ (best-passes _ _) 0 (m .result) (m .ensures))
 
 pub first-best-spec : {M : Type 1} → statement M
 first-best-spec =
-    tie.close (tie.spec first-requires slice-aggregate-settle settle-requires same-length returns)
+    tie.close
+    (tie.spec
+    first-requires
+    settle-requires
+    same-length
+    returns)
