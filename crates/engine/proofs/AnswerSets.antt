@@ -1,6 +1,6 @@
 -- On an accepted page the words have the answer sets of the page and no others: an answer set holds only raised atoms and head atoms, which are
 -- atoms of the page. So the lists and the pick of the words are those of the page. Assumes nothing.
-use mathlib.Core.Path.{_≡_, refl, sym, ap, _∙_}
+use mathlib.Core.Path.{_≡_, refl, ap, _∙_}
 use mathlib.Core.Bool.{Bool, true}
 use mathlib.Core.Logic.{⊎-elim}
 use mathlib.Core.List.{List, [], _∷_, List·Memᴰ, List·Memᴰ·head, List·Memᴰ·tail, List·Memᴰ·append-cases}

@@ -1,17 +1,16 @@
 -- What a call's number says, from its list of refusals; and what an accepted list leaves in the lent slice. Assumes nothing.
-use mathlib.Core.Path.{_≡_, refl, sym, ap, _∙_, subst}
-use mathlib.Core.Bool.{Bool, true, false, cond}
+use mathlib.Core.Path.{_≡_, refl, sym, _∙_, subst}
+use mathlib.Core.Bool.{cond}
 use mathlib.Core.Logic.{_↔_}
-use mathlib.Core.List.{List, [], _∷_, _++_}
+use mathlib.Core.List.{List, _++_}
 use Prim.Native.Nat.{ℕ}
 use lib.Dec.{T, eqb, ltb}
 use lib.ListN.{length, take, drop}
 use lib.Seq.{drop-at, take-at}
 use borrow.Author.Tests.{ne-eqb}
 use Rattle.atoms.proofs.Truth.{both}
-use Rattle.lpod.specs.Lists.{every}
 use Rattle.lpod.proofs.Lists.{every-append}
-use Rattle.page.specs.Refusals.{Refusal, refuse, firstThat, noneHolds, numbered, FirstOf}
+use Rattle.page.specs.Refusals.{Refusal, firstThat, noneHolds, numbered, FirstOf}
 use Rattle.page.proofs.Refusals.{none-given, given-none, first-given, given-first}
 use Rattle.lanes.specs.Entries.{over}
 

@@ -1,6 +1,6 @@
 -- A call's number where it has one refusal more than those of its page and flag word: theirs where they refuse, else that of the one more where
 -- it holds, else 0. Assumes nothing.
-use mathlib.Core.Path.{_≡_, refl, sym, ap, _∙_}
+use mathlib.Core.Path.{_≡_, _∙_}
 use mathlib.Core.Bool.{Bool, true, false, cond}
 use mathlib.Core.List.{List, [], _∷_, _++_}
 use Prim.Native.Nat.{ℕ}

@@ -22,7 +22,6 @@ use Rattle.lpod.specs.Degree.{degree}
 use Rattle.words.specs.Coded.{ruleIn, rulesIn}
 use Rattle.lanes.specs.Lanes.{Says}
 use Rattle.lanes.specs.Rank.{over, Grades}
-use Rattle.lanes.specs.Left.{Firsts}
 use Rattle.lanes.proofs.RankedRows.{over-first, over-none}
 
 -- ---- one bit more in a word of 32
@@ -127,20 +126,13 @@ unfolding rulesIn
 in-rows [] r m = elim m [ ]
 in-rows (w ∷ rows) r m = ⊎-elim (λ e. (0, (omega arith, e))) (λ i. let x = in-rows rows r i in (suc (x .0), (omega (arith, x .1 .0), x .1 .1))) (List·Memᴰ·cases-cons m)
 
--- the word of all rows of degree 1, and the empty word
-pub firsts-all : (rows grades : List ℕ) (k : ℕ) → FirstTo grades (length rows) k → Firsts rows grades k
-firsts-all rows grades k f = record {
-  each = λ i t. let u : T (ltb i (length rows) && eqb (getD grades i 0) 1) = subst T (f i) t in
-      (ltb→lt i (length rows) (and-l (ltb i (length rows)) (eqb (getD grades i 0) 1) u), eqb→eq (getD grades i 0) 1 (and-r (ltb i (length rows)) (eqb (getD grades i 0) 1) u));
-}
-
-pub firsts-zero : (rows grades : List ℕ) → Firsts rows grades 0
-firsts-zero rows grades = record { each = λ i t. absurd (subst T (has-zero i) t) }
-
-module _ (rows grades : List ℕ) (M : ℕ) (g : Grades rows grades M) (k : ℕ) (f : Firsts rows grades k) where
+module _ (rows grades : List ℕ) (M : ℕ) (g : Grades rows grades M) (k : ℕ) (f : FirstTo grades (length rows) k) where
   -- bit n of M's word says that row n has degree 1 in M
   first-degree : (n : ℕ) → T (has k n) → (n < length rows) × (degree M (ruleIn (getD rows n 0)) ≡ 1)
-  first-degree n t = let u = f .each n t in (u .0, sym (grade-at rows grades M g n (u .0)) ∙ u .1)
+  first-degree n t =
+      let u : T (ltb n (length rows) && eqb (getD grades n 0) 1) = subst T (f n) t in
+      let h = ltb→lt n (length rows) (and-l (ltb n (length rows)) (eqb (getD grades n 0) 1) u) in
+      (h, sym (grade-at rows grades M g n h) ∙ eqb→eq (getD grades n 0) 1 (and-r (ltb n (length rows)) (eqb (getD grades n 0) 1) u))
 
   -- the block is skipped
   pub skip : (b among x : ℕ) → FirstsTo rows b among (length rows) x → (T (inside k x) → ⊥) → (j : ℕ) → j < 64 → T (has among j) → over rows (64 * b + j) M ≡ false

@@ -10,7 +10,7 @@ use native.Mathlib.Omega.{arith}
 use lib.Bits.{bitAnd}
 use lib.Dec.{T, eqb, eqb→eq}
 use lib.ListN.{length, getD, set}
-use lib.Pow.{shl-exact}
+use lib.Pow.{shl-exact, pow-pos}
 use lib.Seq.{getD-set-same, getD-set-other}
 use borrow.Author.Tests.{eq-eqb, ne-eqb}
 use Rattle.atoms.specs.Atoms.{has, inside}
@@ -21,11 +21,11 @@ use Rattle.words.specs.Coded.{ruleIn}
 use Rattle.lanes.specs.Lanes.{Says}
 use Rattle.lanes.specs.Marks.{marked, Within}
 use Rattle.lanes.specs.Rank.{over, Grades}
-use Rattle.lanes.specs.Left.{Firsts, Index, Searched, rival}
+use Rattle.lanes.specs.Left.{Index, Searched, rival}
 use Rattle.lanes.proofs.Marked.{marked-at, marked-past, none-before, none-to, within-fewer}
 use Rattle.lanes.proofs.Words.{full, has-complement, has-not}
 use Rattle.lanes.proofs.RankedRows.{over-irreflexive}
-use Rattle.lanes.proofs.FirstRows.{FirstsTo, skip, none-over}
+use Rattle.lanes.proofs.FirstRows.{FirstTo, FirstsTo, skip, none-over}
 
 -- ---- made block by block: it is right below block d
 abbrev pub IndexTo : List ℕ → List ℕ → List ℕ → ℕ → Type 0
@@ -83,7 +83,7 @@ module _ (rows marks : List ℕ) (b M : ℕ) where
   rival-says x f j l = f j l ∙ ap (λ (a : Bool). a && over rows (64 * b + j) M) (sym (marked-at marks b j l))
 
   -- the rows of degree 1 are no part of the index word
-  pub none-first : (grades index : List ℕ) (first : ℕ) → Grades rows grades M → Firsts rows grades first → Index rows index marks → b < length marks
+  pub none-first : (grades index : List ℕ) (first : ℕ) → Grades rows grades M → FirstTo grades (length rows) first → Index rows index marks → b < length marks
       → (bitAnd first (getD index b 0) ≡ first → ⊥) → Says b 0 (rival (over rows) marks M)
   unfolding inside
   none-first grades index first g f i l n =
@@ -140,9 +140,16 @@ unmarked marks s w l f x = go (ℕ-discrete (x / 64) (s / 64))
         ∙ sym (ap (λ (c : Bool). has (getD marks (x / 64) 0) (x % 64) && not c) (ne-eqb x s (λ q. e (ap (λ (y : ℕ). y / 64) q))) ∙ and-true (has (getD marks (x / 64) 0) (x % 64)))
 
 -- every row has degree 1 in M
-pub no-rival : (rows grades marks : List ℕ) (M first : ℕ) → Grades rows grades M → Firsts rows grades first → ((n : ℕ) → n < length rows → T (has first n))
+-- a word to which one is added to give a power of two is all ones below
+all-ones : (x n : ℕ) → T (eqb (x + 1) (2 ^ n)) → (i : ℕ) → i < n → T (has x i)
+all-ones x n t i l =
+    let e = eqb→eq (x + 1) (2 ^ n) t in
+    let z : x ≡ 2 ^ n - 1 - 0 = omega arith in
+    true-yes (ap (λ (y : ℕ). has y i) z ∙ has-complement n 0 i (pow-pos n) l ∙ ap not (has-zero i))
+
+pub no-rival : (rows grades marks : List ℕ) (M first : ℕ) → Grades rows grades M → FirstTo grades (length rows) first → T (eqb (first + 1) (2 ^ length rows))
     → (s : ℕ) → T (rival (over rows) marks M s) → ⊥
-no-rival rows grades marks M first g f a s t = false-no (none-over rows grades M g first f a s) (and-r (marked marks s) (over rows s M) t)
+no-rival rows grades marks M first g f e s t = false-no (none-over rows grades M g first f (all-ones first (length rows) e) s) (and-r (marked marks s) (over rows s M) t)
 
 -- ---- where a marked set stands
 pub stands : (rows marks index : List ℕ) (low high : ℕ) → Searched rows marks index low high → (s : ℕ) → T (marked marks s)

@@ -5,7 +5,7 @@ use mathlib.Core.Path.{_≡_, sym, ap, _∙_, subst}
 use mathlib.Core.Bool.{Bool, true, false, not, cond}
 use mathlib.Core.List.{List}
 use Prim.Native.Nat.{ℕ, _+_, _-_, _*_, _/_, _%_, _^_, _≤_, _<_}
-use native.Mathlib.Nat.{lt-of-le-of-lt, lt-of-not-le, div-one}
+use native.Mathlib.Nat.{lt-of-le-of-lt, div-one}
 use native.Mathlib.Decide.{ℕ-discrete, decLt}
 use native.Mathlib.Omega.{arith}
 use lib.Dec.{T, eqb, eqb→eq}
@@ -14,7 +14,7 @@ use lib.ListN.{length, getD, set, List·getD-eq-default}
 use lib.Pow.{shr-shr, shr-le}
 use lib.Seq.{getD-set-same, getD-set-other}
 use borrow.Author.Tests.{ne-eqb, eq-eqb}
-use Rattle.atoms.specs.Atoms.{has, Inside, inside}
+use Rattle.atoms.specs.Atoms.{has, inside}
 use Rattle.atoms.proofs.Truth.{false-no}
 use Rattle.atoms.proofs.Bits.{has-zero, has-low, has-below, inside-le, test-inside}
 use Rattle.atoms.proofs.Count.{lowest-in, lowest-first}
@@ -46,32 +46,10 @@ module _ (marks : List ℕ) where
   unfolding marked
   marked-past s h = ap (λ (w : ℕ). has w (s % 64)) (List·getD-eq-default marks 0 (omega arith)) ∙ has-zero (s % 64)
 
-  pub marked-below : length marks ≤ 1024 → (s : ℕ) → T (marked marks s) → s < 65536
-  marked-below few s t = lt-of-not-le (λ h. false-no (marked-past s (omega arith)) t)
-
-  -- a word that loses bits loses marks
-  pub set-fewer : (b x : ℕ) → b < length marks → Inside x (getD marks b 0) → (s : ℕ) → T (marked (set marks b x) s) → T (marked marks s)
-  unfolding marked
-  set-fewer b x l f s t = go (ℕ-discrete (s / 64) b)
-    where
-      go : Dec (s / 64 ≡ b) → T (has (getD marks (s / 64) 0) (s % 64))
-      go (yes e) =
-          rw e (f (s % 64) (subst (λ (y : ℕ). T (has y (s % 64))) (ap (λ (c : ℕ). getD (set marks b x) c 0) e ∙ getD-set-same marks b x 0 l) t))
-      go (no n) = subst (λ (y : ℕ). T (has y (s % 64))) (getD-set-other marks b (s / 64) x 0 n) t
-
 -- ---- the blocks that have marks
 module _ (marks : List ℕ) (low high : ℕ) (w : Within marks low high) where
   pub within-fewer : (fewer : List ℕ) → ((s : ℕ) → T (marked fewer s) → T (marked marks s)) → Within fewer low high
   within-fewer fewer f s t = w s (f s t)
-
-  -- a word in a block between low and high may be any
-  pub within-set : (b x : ℕ) → T (inside low b) → T (inside b high) → Within (set marks b x) low high
-  unfolding marked
-  within-set b x u v s t = go (ℕ-discrete (s / 64) b)
-    where
-      go : Dec (s / 64 ≡ b) → T (inside low (s / 64)) × T (inside (s / 64) high)
-      go (yes e) = rw e (u, v)
-      go (no n) = w s (subst (λ (y : ℕ). T (has y (s % 64))) (getD-set-other marks b (s / 64) x 0 n) t)
 
   -- none before block low, none from block b to the next that lies between, none past the last word
   pub none-before : NoneBetween (marked marks) 0 (64 * low)

@@ -2,7 +2,7 @@
 -- pass, one after the other. By induction on how many numbers are left. Assumes nothing.
 use mathlib.Core.Path.{_≡_, refl, sym, ap, _∙_, subst}
 use mathlib.Core.Bool.{Bool, true, false, cond}
-use mathlib.Core.List.{List, [], _∷_}
+use mathlib.Core.List.{[], _∷_}
 use Prim.Native.Nat.{ℕ, zero, suc, _+_, _-_, _≤_, _<_}
 use native.Mathlib.Decide.{ℕ-discrete, decLe}
 use native.Mathlib.Nat.{le-refl}
@@ -11,7 +11,7 @@ use lib.Dec.{T}
 use lib.ListN.{length}
 use Rattle.lpod.specs.Lists.{keep, numbers}
 use Rattle.lpod.proofs.Lists.{keep-length, numbers-next, numbers-done}
-use Rattle.atoms.proofs.Truth.{yes-true, no-false, true-yes, false-no}
+use Rattle.atoms.proofs.Truth.{yes-true, no-false, true-yes}
 use Rattle.lanes.specs.Seek.{seek, nextFrom, allFrom}
 
 pub numbers-length : (i n : ℕ) → length (numbers i n) ≡ n
@@ -99,9 +99,6 @@ module _ (q : ℕ → Bool) where
   pub next-at : (m : ℕ) → m < 65536 → T (q m) → nextFrom q m ≡ m
   next-at m h t = next-is m m (le-refl m) h (λ s l k. absurd (omega arith)) t
 
-  pub next-here : (m : ℕ) (b : Bool) → m < 65536 → b ≡ q m → b ≡ true → nextFrom q m ≡ m
-  next-here m b h e t = next-at m h (true-yes (sym e ∙ t))
-
   pub next-none : (i : ℕ) → i ≤ 65536 → NoneBetween i 65536 → nextFrom q i ≡ 65536
   next-none i l f = go (decLe 65536 (nextFrom q i))
     where
@@ -123,10 +120,6 @@ module _ (q : ℕ → Bool) where
       go : Dec (65536 ≤ nextFrom q j) → nextFrom q i ≡ nextFrom q j
       go (yes a) = let e : nextFrom q j ≡ 65536 = omega (arith, next-le j h) in next-none i (omega arith) (subst (NoneBetween i) e none) ∙ sym e
       go (no a) = next-is i (nextFrom q j) (omega (arith, next-ge j)) (omega arith) none (next-hit j (omega arith))
-
-  pub next-on : (i : ℕ) (b : Bool) → i < 65536 → b ≡ q i → b ≡ false → nextFrom q i ≡ nextFrom q (i + 1)
-  next-on i b h e t =
-      next-skip i (i + 1) (omega arith) (omega arith) (λ s l k u. let z : s ≡ i = omega arith in false-no (sym e ∙ t) (subst (λ (x : ℕ). T (q x)) z u))
 
   -- ---- all that pass
   pub all-past : (i : ℕ) → 65536 ≤ i → allFrom q i ≡ []
@@ -151,9 +144,6 @@ module _ (q : ℕ → Bool) where
       let a : i ≤ m = rw e (next-ge i) in
       let b : m ≤ 65536 = rw e (next-le i l) in
       all-skip (m - i) i m (omega arith) b (rw e (next-miss i))
-
-  pub all-next : (m m′ : ℕ) → m < 65536 → T (q m) → m′ ≡ nextFrom q (m + 1) → allFrom q m ≡ m ∷ allFrom q m′
-  all-next m m′ h t e = all-here m h t ∙ ap (λ (l : List ℕ). m ∷ l) (all-first (m + 1) m′ (omega arith) e)
 
   -- no more than there are sets
   pub all-length : (i : ℕ) → length (allFrom q i) ≤ 65536 - i

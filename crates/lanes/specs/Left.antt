@@ -20,10 +20,6 @@ Index rows index marks =
     (b n j : ℕ) → b < length marks → n < length rows → j < 64 → T (has (getD marks b 0) j) → degree (64 * b + j) (ruleIn (getD rows n 0)) ≡ 1
     → T (has (getD index b 0) n)
 
--- rows of degree 1, by the degrees of one set
-pub record Firsts (rows grades : List ℕ) (first : ℕ) : Type 0 where
-  pub each : (i : ℕ) → T (has first i) → (i < length rows) × (getD grades i 0 ≡ 1)
-
 -- ---- rows that rank lanes, and marks that are searched
 pub record Ready (rows lows : List ℕ) (deepest : ℕ) : Type 0 where
   pub few : length rows ≤ 32

@@ -10,7 +10,7 @@ ghost use Rattle.atoms.specs.Atoms.{has};
 ghost use Rattle.lpod.specs.Lists.{keep};
 ghost use Rattle.lpod.specs.Degree.{degree};
 ghost use Rattle.lpod.specs.Preferred.{within, longest};
-ghost use Rattle.words.specs.Coded.{ruleIn, rulesIn, headLength};
+ghost use Rattle.words.specs.Coded.{ruleIn, rulesIn};
 ghost use Rattle.lanes.specs.Lanes.{Says, Block, LowBody, LowBodies};
 ghost use Rattle.lanes.specs.Rank.{over, Grades, ranks};
 use crate::word;
@@ -173,11 +173,14 @@ pub fn compare(
     Compared { won, lost }
 }
 
-// Bit n where some lane of `among` has degree 1 in row n.
-fn first_lanes(rows: &[u64], lows: &[u64], b: u16, among: u64) -> u32
+// The index word of a block: bit n where some lane of `among` has degree 1 in row n. Most blocks have no lane that counts.
+pub fn firsts(rows: &[u64], lows: &[u64], b: u16, among: u64) -> u32
     requires { ⌜ (b < 1024) × LowBodies (now rows) (now lows) × (length (now rows) ≤ length (now lows)) × (length (now rows) ≤ 32) ⌝ }
     ensures { λ r. ⌜ ((n j : ℕ) → n < length (now (rows .entry)) → j < 64 → T (has among j) → degree (64 * b + j) (ruleIn (getD (now (rows .entry)) n 0)) ≡ 1 → T (has r n)) ⌝ }
 {
+    if among == 0 {
+        return 0;
+    }
     let w = word::block_words(b);
     let mut x: u32 = 0;
     let mut n: usize = 0;
@@ -189,15 +192,4 @@ fn first_lanes(rows: &[u64], lows: &[u64], b: u16, among: u64) -> u32
         n += 1;
     }
     x
-}
-
-// The index word of a block. Most blocks have no lane that counts.
-pub fn firsts(rows: &[u64], lows: &[u64], b: u16, among: u64) -> u32
-    requires { ⌜ (b < 1024) × LowBodies (now rows) (now lows) × (length (now rows) ≤ length (now lows)) × (length (now rows) ≤ 32) ⌝ }
-    ensures { λ r. ⌜ ((n j : ℕ) → n < length (now (rows .entry)) → j < 64 → T (has among j) → degree (64 * b + j) (ruleIn (getD (now (rows .entry)) n 0)) ≡ 1 → T (has r n)) ⌝ }
-{
-    if among == 0 {
-        return 0;
-    }
-    first_lanes(rows, lows, b, among)
 }

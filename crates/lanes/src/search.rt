@@ -1,10 +1,10 @@
-// The best of the marked sets, found in place. A set to which another is preferred may lose its mark at once, for whatever it beats is beaten by a best
-// set too. So where two sets are compared the worse one is dropped, whichever it is, and the marks get fewer while they are searched. A set that is
-// not best leads up to a champion, and what the champion beats is dropped, from the block of the set in hand on. Where a row has degree 1 in the set
-// in hand and in no marked set of a block, none of that block is preferred to it: an index of such rows spares most looks at a block.
+// The best of the marked sets, found in place. A set to which another is preferred may lose its mark at once, for whatever it beats is beaten by a
+// best set too. So where two sets are compared the worse one may go, whichever it is, and the marks get fewer while they are searched. A set that is
+// not best leads up to a champion, and what the champion beats goes, from the block of the set in hand on. Where a row has degree 1 in the set in hand
+// and in no marked set of a block, none of that block is preferred to it: an index of such rows spares most looks at a block.
 ghost use mathlib.Core.Path.{_≡_};
 ghost use mathlib.Core.Bool.{_&&_, not};
-ghost use Prim.Native.Nat.{ℕ, _+_, _*_, _/_, _≤_, _<_};
+ghost use Prim.Native.Nat.{ℕ, _+_, _*_, _/_, _^_, _≤_, _<_};
 ghost use lib.Dec.{T, eqb};
 ghost use lib.ListN.{length};
 ghost use Rattle.atoms.specs.Atoms.{has, inside};
@@ -13,7 +13,7 @@ ghost use Rattle.lanes.specs.Seek.{nextFrom};
 ghost use Rattle.lanes.specs.Marks.{marked, Within};
 ghost use Rattle.lanes.specs.Rank.{over, Grades};
 ghost use Rattle.lanes.specs.Search.{soughtBest};
-ghost use Rattle.lanes.specs.Left.{Index, Firsts, Ready, Searched, Left, Cleared, rival};
+ghost use Rattle.lanes.specs.Left.{Index, Ready, Searched, Left, Cleared, rival};
 use crate::blocks;
 use crate::marks;
 use crate::rank;
@@ -44,25 +44,19 @@ fn others(among: u64, b: u16, m: u16) -> u64
     among & !(1u64 << (m % 64))
 }
 
-// The lanes of block b that are marked and preferred to m, the set that is graded. Those to which m is preferred lose their marks, but where the index
-// tells that none is preferred to m: `first` is the rows of degree 1 in m, or 0, and then no block is passed over.
-fn better_in(
+// The lanes of block b that are marked and preferred to m, the set that is graded. Those to which m is preferred lose their marks.
+fn meet(
     rows: &[u64],
     lows: &[u64],
     deepest: u8,
-    index: &[u32],
     grades: &[u8],
     marks: &mut [u64],
-    first: u32,
     m: u16,
     b: u16,
 ) -> u64
-    requires { ⌜ Ready (now rows) (now lows) deepest × (length (now rows) ≤ length (now grades)) × Grades (now rows) (now grades) m × Firsts (now rows) (now grades) first × (b < 1024) × (b < length (now marks)) × (b < length (now index)) × Index (now rows) (now index) (now marks) ⌝ }
+    requires { ⌜ Ready (now rows) (now lows) deepest × (length (now rows) ≤ length (now grades)) × Grades (now rows) (now grades) m × (b < 1024) × (b < length (now marks)) ⌝ }
     ensures { λ r. ⌜ Says b r (rival (over (now (rows .entry))) (now (marks .entry)) m) × Cleared (over (now (rows .entry))) m (now (marks .entry)) (now (marks .exit)) ⌝ }
 {
-    if first & index[b as usize] != first {
-        return 0;
-    }
     let among = marks[b as usize];
     let rest = others(among, b, m);
     if rest == 0 {
@@ -73,44 +67,16 @@ fn better_in(
     r.won
 }
 
-// The least marked set from block b on that is preferred to m, the set that is graded; 65,536, which is no set, where there is none. Sets to which m
-// is preferred may lose their marks, up to there.
-fn better_from(
-    rows: &[u64],
-    lows: &[u64],
-    deepest: u8,
-    low: u16,
-    high: u16,
-    index: &[u32],
-    grades: &[u8],
-    marks: &mut [u64],
-    first: u32,
-    m: u16,
-    b: u16,
-) -> u32
-    requires { ⌜ Ready (now rows) (now lows) deepest × (length (now rows) ≤ length (now grades)) × Grades (now rows) (now grades) m × Firsts (now rows) (now grades) first × Searched (now rows) (now marks) (now index) low high × T (inside low b) × T (inside b high) × (b < 1024) ⌝ }
-    ensures { λ r. ⌜ (r ≡ nextFrom (rival (over (now (rows .entry))) (now (marks .entry)) m) (64 * b)) × Cleared (over (now (rows .entry))) m (now (marks .entry)) (now (marks .exit)) ⌝ }
-{
-    let mut c = b;
-    while (c as usize) < marks.len() {
-        let x = better_in(rows, lows, deepest, index, grades, &mut *marks, first, m, c);
-        if x != 0 {
-            return 64 * (c as u32) + u64::trailing_zeros(x);
-        }
-        c = blocks::next_block(c, low, high);
-    }
-    65536
-}
-
-// Each of the n rows has degree 1: nothing is preferred to such a set.
+// The word of rows of degree 1 has all n rows: nothing is preferred to such a set.
 fn all_first(first: u32, n: usize) -> bool
     requires { ⌜ n ≤ 32 ⌝ }
-    ensures { λ r. ⌜ (T r → (i : ℕ) → i < n → T (has first i)) ⌝ }
+    ensures { λ r. ⌜ r ≡ eqb (first + 1) (2 ^ n) ⌝ }
 {
     first as u64 + 1 == 1u64 << n
 }
 
-// The same for a set that is not graded yet. To one with degree 1 in every row nothing is preferred.
+// The least marked set from block b on that is preferred to m; 65,536, which is no set, where there is none. Sets that m meets on the way and is
+// preferred to lose their marks. A block whose index lacks a row of degree 1 is passed over, and to a set with degree 1 in every row nothing is preferred.
 fn rival_from(
     rows: &[u64],
     lows: &[u64],
@@ -131,55 +97,46 @@ fn rival_from(
     if all_first(first, rows.len()) {
         return 65536;
     }
-    better_from(
-        rows,
-        lows,
-        deepest,
-        low,
-        high,
-        index,
-        &grades,
-        &mut *marks,
-        first,
-        m,
-        b,
-    )
+    let mut c = b;
+    while (c as usize) < marks.len() {
+        if first & index[c as usize] == first {
+            let x = meet(rows, lows, deepest, &grades, &mut *marks, m, c);
+            if x != 0 {
+                return 64 * (c as u32) + u64::trailing_zeros(x);
+            }
+        }
+        c = blocks::next_block(c, low, high);
+    }
+    65536
 }
 
-// From block b on, sets to which m is preferred lose their marks: all of them where none is preferred to m.
+// From block b on, the sets to which m is preferred lose their marks.
 fn clear_worse(
     rows: &[u64],
     lows: &[u64],
     deepest: u8,
     low: u16,
     high: u16,
-    index: &[u32],
     marks: &mut [u64],
     m: u16,
     b: u16,
 )
-    requires { ⌜ Ready (now rows) (now lows) deepest × Searched (now rows) (now marks) (now index) low high × T (inside low b) × T (inside b high) × (b < 1024) ⌝ }
+    requires { ⌜ Ready (now rows) (now lows) deepest × (length (now marks) ≤ 1024) × T (inside low b) × T (inside b high) × (b < 1024) ⌝ }
     ensures { λ r. ⌜ Cleared (over (now (rows .entry))) m (now (marks .entry)) (now (marks .exit)) ⌝ }
 {
     let mut grades = [0u8; 32];
     rank::grade(rows, m, &mut grades);
-    better_from(
-        rows,
-        lows,
-        deepest,
-        low,
-        high,
-        index,
-        &grades,
-        &mut *marks,
-        0,
-        m,
-        b,
-    );
+    let mut c = b;
+    while (c as usize) < marks.len() {
+        if marks[c as usize] != 0 {
+            meet(rows, lows, deepest, &grades, &mut *marks, m, c);
+        }
+        c = blocks::next_block(c, low, high);
+    }
 }
 
-// From the set n up: to one from block b on that is preferred to it, and so on from there. What the last of them beats loses its mark. No way up is so
-// long that the count ends it.
+// From the set n up: to the least one from block b on that is preferred to it, and so on from there. What the last of them beats loses its mark, from
+// block b on. The count is there for the loop to end: no way up is so long.
 fn climb(
     rows: &[u64],
     lows: &[u64],
@@ -199,7 +156,7 @@ fn climb(
     while 0 < left {
         let k = rival_from(rows, lows, deepest, low, high, index, &mut *marks, c, b);
         if 65536 <= k {
-            clear_worse(rows, lows, deepest, low, high, index, &mut *marks, c, b);
+            clear_worse(rows, lows, deepest, low, high, &mut *marks, c, b);
             return;
         }
         c = k as u16;

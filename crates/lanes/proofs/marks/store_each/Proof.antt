@@ -1,5 +1,5 @@
 -- `marks::store_each` goes from bit to bit. Assumes nothing.
-use mathlib.Core.Path.{_≡_, refl, sym, ap, _∙_}
+use mathlib.Core.Path.{refl, sym, ap, _∙_}
 use mathlib.Core.List.{List}
 use Prim.Native.Nat.{ℕ, _+_, _-_, _*_, _/_, _^_}
 use native.Mathlib.Omega.{arith}

@@ -33,7 +33,7 @@ clear-worse-requires c κs =
     let p = c .before .before .before .before .before .before .before .before .before .before .before .before .pre in
     let f = c .before .before .before .before .before .before .before .loop .inv .2 in
     let g = c .before .before .before .before .rival-from .ensures .1 in
-    (p .0, searched-left _ _ _ _ _ _ (g .same ∙ f .same) (λ s t. f .less s (g .less s t)) (p .1), p .2, p .3, p .4)
+    (p .0, omega (arith, p .1 .few, f .same, g .same), p .2, p .3, p .4)
 
 same-length : tie.Need-same-length Inv-loop μ-loop
 same-length c = c .before .before .clear-worse .ensures .same ∙ c .before .before .before .before .before .before .before .rival-from .ensures .1 .same ∙ c .before .before .before .before .before .before .before .before .before .before .loop .inv .2 .same

@@ -84,6 +84,3 @@ pass-beaten-spec =
     next-after-requires-2
     same-length-2
     returns-2)
-
-zq : Type 1
-zq = Type 0
