@@ -1,5 +1,5 @@
--- For every public call of atoms, lpod, page, words, routes, lanes and engine: any two answers that its statement allows are equal, and so is the lent memory
--- afterwards. Each statement is one equation or two, so this is short; it would fail for a statement that left something open.
+-- For every public call of atoms, lpod, page, words, routes, lanes and engine: any two answers that its statement allows are equal, and so is the
+-- lent memory afterwards. Each statement is one equation or two, so this is short; it would fail for a statement that left something open.
 -- There is no exception. Assumes nothing.
 use mathlib.Core.Path.{_≡_, sym, _∙_}
 use mathlib.Core.Bool.{Bool}

@@ -32,7 +32,7 @@ fn is_best(which: Which) -> bool
     }
 }
 
-// How many sets an accepted page and flag word have. Where there is room for all they stand at the start of the lent slice; else it is left as it was.
+// How many sets an accepted page and flag word have. Where there is room for all they stand at the start of the lent slice; else it is as it was.
 fn found(page: &[u8], flags: u16, which: Which, out: &mut [u16]) -> u32
     requires { ⌜ flagNo (now page) flags ≡ 0 ⌝ }
     ensures { λ r. ⌜ FoundSays (means.setsOf which (program (now (page .entry)) flags)) (now (out .entry)) r (now (out .exit)) ⌝ }

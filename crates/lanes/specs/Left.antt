@@ -46,7 +46,7 @@ module _ (over : ℕ → ℕ → Bool) where
     pub less : (s : ℕ) → T (marked after s) → T (marked before s)
     pub best : (s : ℕ) → T (soughtBest over before s) → T (marked after s)
 
-  -- no set has gained a mark, and only sets to which M is preferred have lost it
+  -- no set has gained a mark, and only sets to which M is preferred have lost it. How many of these go is a matter of speed
   pub record Cleared (M : ℕ) (before after : List ℕ) : Type 0 where
     pub same : length after ≡ length before
     pub less : (s : ℕ) → T (marked after s) → T (marked before s)

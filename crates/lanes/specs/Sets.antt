@@ -26,10 +26,11 @@ programOf rows pairs flags = programIn (take 32 rows) pairs flags
 unfoldable pub wanted : Bool → Program → List ℕ
 wanted best p = cond best (bestSets p) (answerSets p)
 
--- how many there are; where the lent slice has room for all they stand at its start, else it is as it was
+-- where the lent slice has room for all they stand at its start, else it is as it was
 unfoldable pub left : List ℕ → List ℕ → List ℕ
 left sets out = cond (ltb (length out) (length sets)) out (entries.over sets out)
 
+-- this, and how many there are
 abbrev pub FoundSays : List ℕ → List ℕ → ℕ → List ℕ → Type 0
 FoundSays sets out r after = (r ≡ length sets) × (after ≡ left sets out)
 

@@ -1,5 +1,5 @@
 // One pass of the rows over 64 sets: they fire one after the other, each on what the rows before it made, and the same pass says in which lanes every
-// row is satisfied, and in which some row has to wait.
+// row is satisfied, in which some row has to wait, and in which something was added.
 ghost use mathlib.Core.Path.{_≡_};
 ghost use mathlib.Core.Bool.{_&&_, not};
 ghost use Prim.Native.Nat.{ℕ, _+_, _*_, _≤_, _<_};

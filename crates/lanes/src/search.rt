@@ -1,7 +1,7 @@
 // The best of the marked sets, found in place. A set to which another is preferred may lose its mark at once, for whatever it beats is beaten by a
 // best set too. So where two sets are compared the worse one may go, whichever it is, and the marks get fewer while they are searched. A set that is
-// not best leads up to a champion, and what the champion beats goes, from the block of the set in hand on. Where a row has degree 1 in the set in hand
-// and in no marked set of a block, none of that block is preferred to it: an index of such rows spares most looks at a block.
+// not best leads up to a champion, and what the champion beats goes, from the block of the set in hand on. Where a row has degree 1 in the set in
+// hand and in no marked set of a block, none of that block is preferred to it: an index of such rows spares most looks at a block.
 ghost use mathlib.Core.Path.{_≡_};
 ghost use mathlib.Core.Bool.{_&&_, not};
 ghost use Prim.Native.Nat.{ℕ, _+_, _*_, _/_, _^_, _≤_, _<_};
@@ -76,7 +76,8 @@ fn all_first(first: u32, n: usize) -> bool
 }
 
 // The least marked set from block b on that is preferred to m; 65,536, which is no set, where there is none. Sets that m meets on the way and is
-// preferred to lose their marks. A block whose index lacks a row of degree 1 is passed over, and to a set with degree 1 in every row nothing is preferred.
+// preferred to lose their marks. A block whose index lacks a row of degree 1 is passed over; to a set with degree 1 in every row nothing is
+// preferred.
 fn rival_from(
     rows: &[u64],
     lows: &[u64],
