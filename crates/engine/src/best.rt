@@ -6,5 +6,10 @@ use crate::list;
 pub fn best(page: &[u8], flags: u16, out: &mut [u16]) -> list::Listed
     ensures { λ r. ⌜ means.BestSays (now (page .entry)) flags (now (out .entry)) r (now (out .exit)) ⌝ }
 {
-    list::sets(page, flags, list::Which::Best, &mut *out)
+    // Field by field: a copy of the whole would wait for its two parts.
+    let r = list::sets(page, flags, list::Which::Best, &mut *out);
+    list::Listed {
+        no: r.no,
+        count: r.count,
+    }
 }

@@ -66,5 +66,10 @@ pub fn sets(page: &[u8], flags: u16, which: Which, out: &mut [u16]) -> Listed
 pub fn list(page: &[u8], flags: u16, out: &mut [u16]) -> Listed
     ensures { λ r. ⌜ means.ListSays (now (page .entry)) flags (now (out .entry)) r (now (out .exit)) ⌝ }
 {
-    sets(page, flags, Which::All, &mut *out)
+    // Field by field: a copy of the whole would wait for its two parts.
+    let r = sets(page, flags, Which::All, &mut *out);
+    Listed {
+        no: r.no,
+        count: r.count,
+    }
 }
