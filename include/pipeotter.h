@@ -3,7 +3,7 @@
 
    Link with libcapi.a (x86-64; `rt staticlib capi` writes it). It wants memcpy and memset from you, and a compiler for C99
    or C++11. The calls keep nothing between them, take no heap, and touch only what you lend. No call needs more than
-   20 KiB of stack. As built, list, best, pick and display need up to 15 KiB, the split test 5.6 KiB, the writer 1.2 KiB, every
+   20 KiB of stack. As built, list, best, pick and display need up to 15 KiB, the split test 5.8 KiB, the writer 1.3 KiB, every
    other call less than 1 KiB. A call that takes a page reads it some three times, however many sets it tries
    (docs/SPEED.md, which also tells of time). The calls may be made from several threads at once if no lent slice is
    written by two.
