@@ -23,6 +23,14 @@ pub head-start : (row k : ℕ) → k ≡ length (ruleIn row .head) → ruleIn ro
 unfolding ruleIn headDigits
 head-start row k e = ap (λ (n : ℕ). digits n (row / 1099511627776)) (sym (e ∙ digits-length (headLength row) (row / 1099511627776)))
 
+-- the lanes that fire and go on past an atom are those that go on and fire
+past : (x f y : Bool) → ((x && f) && not y) ≡ ((x && not y) && f)
+past true true true = refl
+past true true false = refl
+past true false true = refl
+past true false false = refl
+past false f y = refl
+
 -- ---- the head: its first atom is a, whose word is y; x are the lanes in which no atom before it was, f those that fire
 module _ {hs rest : List ℕ} {a : ℕ} (e : hs ≡ a ∷ rest) (w : List ℕ) (x y : ℕ) (ey : y ≡ getD w a 0) (ky : y ≤ full) (j : ℕ) (l : j < 64) where
   word-is : has (column w j) a ≡ has y j
@@ -30,6 +38,10 @@ module _ {hs rest : List ℕ} {a : ℕ} (e : hs ≡ a ∷ rest) (w : List ℕ) (
 
   after : has (bitAnd x (full - y)) j ≡ (has x j && not (has y j))
   after = has-and x (full - y) j ∙ ap (λ (q : Bool). has x j && q) (has-not y j ky l)
+
+  -- the lanes of x and f into which a goes
+  new : (f : ℕ) → has (bitAnd (bitAnd x f) y) j ≡ ((has x j && has f j) && has y j)
+  new f = has-and (bitAnd x f) y j ∙ ap (λ (q : Bool). q && has y j) (has-and x f j)
 
   pub head-turn : (has x j && noneIn hs (column w j)) ≡ (has (bitAnd x (full - y)) j && noneIn rest (column w j))
   unfolding noneIn someIn some
@@ -44,15 +56,8 @@ module _ {hs rest : List ℕ} {a : ℕ} (e : hs ≡ a ∷ rest) (w : List ℕ) (
       → put hs (column w j) (has x j && has f j) (column cur j) ≡ put rest (column w j) (has (bitAnd x (full - y)) j && has f j) (column out j)
   unfolding put
   put-turn f cur out k eo =
-      rw (e, word-is, after, eo, put-column cur a (bitAnd (bitAnd x f) y) j k ((has x j && has f j) && has y j) (has-and (bitAnd x f) y j ∙ ap (λ (q : Bool). q && has y j) (has-and x f j)))
-      (ap (λ (q : Bool). put rest (column w j) q (cond ((has x j && has f j) && has y j) (insert (column cur j) a) (column cur j))) (go (has x j) (has f j) (has y j)))
-    where
-      go : (x f y : Bool) → ((x && f) && not y) ≡ ((x && not y) && f)
-      go true true true = refl
-      go true true false = refl
-      go true false true = refl
-      go true false false = refl
-      go false f y = refl
+      rw (e, word-is, after, eo, put-column cur a (bitAnd (bitAnd x f) y) j k ((has x j && has f j) && has y j) (new f))
+      (ap (λ (q : Bool). put rest (column w j) q (cond ((has x j && has f j) && has y j) (insert (column cur j) a) (column cur j))) (past (has x j) (has f j) (has y j)))
 
   -- z is the word of a in what is reached, and g the lanes in which something went in before
   pub adds-turn : (f g z : ℕ) (cur out : List ℕ) → a < length cur → z ≡ getD cur a 0 → z ≤ full → out ≡ set cur a (bitOr (getD cur a 0) (bitAnd (bitAnd x f) y))
@@ -60,23 +65,13 @@ module _ {hs rest : List ℕ} {a : ℕ} (e : hs ≡ a ∷ rest) (w : List ℕ) (
       ≡ (has (bitOr g (bitAnd (bitAnd (bitAnd x f) y) (full - z))) j || adds rest (column w j) (has (bitAnd x (full - y)) j && has f j) (column out j))
   unfolding adds
   adds-turn f g z cur out k ez kz eo =
-      rw (e, word-is, after, eo, put-column cur a (bitAnd (bitAnd x f) y) j k ((has x j && has f j) && has y j) new, has-or g (bitAnd (bitAnd (bitAnd x f) y) (full - z)) j, has-and (bitAnd (bitAnd x f) y) (full - z) j, has-not z j kz l, new, reached)
+      rw (e, word-is, after, eo, put-column cur a (bitAnd (bitAnd x f) y) j k ((has x j && has f j) && has y j) (new f), has-or g (bitAnd (bitAnd (bitAnd x f) y) (full - z)) j, has-and (bitAnd (bitAnd x f) y) (full - z) j, has-not z j kz l, new f, reached)
       (ap (λ (q : Bool). has g j || ((((has x j && has f j) && has y j) && not (has z j)) || adds rest (column w j) q (cond ((has x j && has f j) && has y j) (insert (column cur j) a) (column cur j))))
-      (go (has x j) (has f j) (has y j))
+      (past (has x j) (has f j) (has y j))
       ∙ sym (or-assoc (has g j) (((has x j && has f j) && has y j) && not (has z j)) _))
     where
-      new : has (bitAnd (bitAnd x f) y) j ≡ ((has x j && has f j) && has y j)
-      new = has-and (bitAnd x f) y j ∙ ap (λ (q : Bool). q && has y j) (has-and x f j)
-
       reached : has (column cur j) a ≡ has z j
       reached = has-column cur j a ∙ ap (λ (v : ℕ). has v j) (sym ez)
-
-      go : (x f y : Bool) → ((x && f) && not y) ≡ ((x && not y) && f)
-      go true true true = refl
-      go true true false = refl
-      go true false true = refl
-      go true false false = refl
-      go false f y = refl
 
 pub head-end : {hs : List ℕ} → hs ≡ [] → (I : ℕ) (t : Bool) → (t && noneIn hs I) ≡ t
 unfolding noneIn someIn some
