@@ -1,4 +1,6 @@
 // Sets of atoms in 16 bits: bit i is atom i. Every function takes every number.
+#![tactic(auto)]
+
 ghost use Rattle.std.specs.Prelude.{◌≡◌};
 ghost use Rattle.atoms.specs.Atoms as sets;
 

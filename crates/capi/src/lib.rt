@@ -1,6 +1,8 @@
 // The calls as C sees them (include/pipeotter.h): numbers and lent slices, a slice as a pointer and a length. Each answers 65,536 times the
 // refusal number plus the value; the letter is a byte, and the display has such a word and the bits of a reading. What a call means is said in
 // the crates below; here its answer becomes one word.
+#![tactic(auto)]
+
 ghost use Rattle.std.specs.Prelude.{◌≡◌};
 ghost use Rattle.lpod.specs.Answer.{answer_sets};
 ghost use Rattle.lpod.specs.Best.{best_sets};

@@ -1,5 +1,7 @@
 // The display of one product, on whose pages atoms 0 to 3 are live, second, held and none: what it shows of the three current readings, by a page
 // and a flag word. Of the page it knows only what public calls answer: the pick, and how many atoms there are.
+#![tactic(auto)]
+
 ghost use Rattle.std.specs.Prelude.{◌≡◌};
 ghost use Rattle.std.specs.Float.{nan};
 ghost use Rattle.display.specs.Shows as means;
@@ -7,7 +9,7 @@ ghost use Rattle.display.specs.Shows as means;
 pub mod reading;
 
 // The three current readings in NTU.
-#[derive(Drop)]
+#[derive(Clone, Copy)]
 pub struct Readings {
     pub live: f32,
     pub second: f32,
@@ -15,7 +17,7 @@ pub struct Readings {
 }
 
 // What stands on the display: one of the readings, or no number.
-#[derive(Drop)]
+#[derive(Clone, Copy)]
 pub enum Shown {
     Live(f32),
     Second(f32),
@@ -24,7 +26,7 @@ pub enum Shown {
 }
 
 // A refusal number, and what is shown. A refused call shows no number. So does a pick of "none", which has the number 0.
-#[derive(Drop)]
+#[derive(Clone, Copy)]
 pub struct Displayed {
     pub no: u16,
     pub shown: Shown,

@@ -12,7 +12,7 @@ use routes::reduct;
 use words::read;
 
 // The refusal number, and the comparison: +1 where the first set is preferred, −1 where the second is, else 0.
-#[derive(Drop)]
+#[derive(Clone, Copy)]
 pub struct Compared {
     pub no: u16,
     pub side: i8,

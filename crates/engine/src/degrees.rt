@@ -13,7 +13,7 @@ use routes::reduct;
 use words::{read, row};
 
 // The refusal number, and how many degrees are stored.
-#[derive(Drop)]
+#[derive(Clone, Copy)]
 pub struct Graded {
     pub no: u16,
     pub count: u16,

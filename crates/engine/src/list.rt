@@ -12,14 +12,14 @@ use page::accept;
 use words::read;
 
 // A refusal number, and how many sets are stored.
-#[derive(Drop)]
+#[derive(Clone, Copy)]
 pub struct Listed {
     pub no: u16,
     pub count: u32,
 }
 
 // Which sets: all answer sets, or the best of them.
-#[derive(Drop)]
+#[derive(Clone, Copy)]
 pub enum Which {
     All,
     Best,

@@ -11,7 +11,7 @@ use page::accept;
 use words::read;
 
 // A refusal number, and the set that is picked. The empty set is a good pick: only the number tells it from a refusal.
-#[derive(Drop)]
+#[derive(Clone, Copy)]
 pub struct Picked {
     pub no: u16,
     pub set: u16,

@@ -8,7 +8,7 @@ use words::row;
 
 // Where two sets differ: the least degree that a row has in one of them alone, 0 where no row has one; whether some row has it in the first
 // set alone, and whether some row has it in the second alone.
-#[derive(Drop)]
+#[derive(Clone, Copy)]
 pub struct Difference {
     pub degree: u8,
     pub first: bool,

@@ -7,7 +7,7 @@ use page::reader::Step;
 use routes::{here_there, reduct, split};
 
 // What the three tests say of one set: whether all are accepted and agree, and whether the set is an answer set.
-#[derive(Drop)]
+#[derive(Clone, Copy)]
 struct Three {
     agree: bool,
     yes: bool,
@@ -73,7 +73,7 @@ fn one_if(yes: bool) -> u32
 }
 
 // How often the three tests agree on the sets below a number, and how many of these sets are answer sets.
-#[derive(Drop)]
+#[derive(Clone, Copy)]
 struct Tally {
     agreed: u32,
     answers: u32,

@@ -6,7 +6,7 @@ ghost use Rattle.std.specs.Prelude.{◌<◌};
 use page::fields;
 
 // Where the parts of a case start, how many calls it has, and where it ends.
-#[derive(Drop)]
+#[derive(Clone, Copy)]
 pub struct Case {
     pub name: u32,
     pub flags: u32,
@@ -18,7 +18,7 @@ pub struct Case {
 }
 
 // A call: what to run, and two numbers to run it with.
-#[derive(Drop)]
+#[derive(Clone, Copy)]
 pub struct Call {
     pub letter: u8,
     pub first: u16,

@@ -1,5 +1,7 @@
 // Runs calls on pages with known results, and prints a line for each result. The cases come from standard input, laid out as input.rt says.
 // tests/known/make.py writes them, and the lines that have to come out.
+#![tactic(auto)]
+
 use input::{Call, Case};
 use libc::STDIN_FILENO;
 

@@ -21,7 +21,7 @@ fn put_in(cur: &mut [u64; 16], a: u32, v: u64)
 }
 
 // What the head of a row says of the lanes: where no head atom is in the set, and where an atom went in that was not there.
-#[derive(Drop)]
+#[derive(Clone, Copy)]
 struct Headed {
     none: u64,
     grew: u64,
@@ -50,7 +50,7 @@ fn head_pass(row: u64, t: u64, fire: u64, w: &[u64; 16], cur: &mut [u64; 16]) ->
 }
 
 // What a pass says of the lanes: where the rows are satisfied, where some row waits, and where something went in.
-#[derive(Drop)]
+#[derive(Clone, Copy)]
 pub struct Passed {
     pub ok: u64,
     pub wait: u64,

@@ -105,7 +105,7 @@ fn exact(word: u64, low: u64, b: u16, w: &[u64; 16], k: u8) -> u64
 }
 
 // At one degree: the lanes whose rows of this degree hold those of the set that is graded, and the lanes whose rows of it are among those.
-#[derive(Drop)]
+#[derive(Clone, Copy)]
 struct Level {
     up: u64,
     down: u64,
@@ -132,7 +132,7 @@ fn at_degree(rows: &[u64], lows: &[u64], grades: &[u8], b: u16, w: &[u64; 16], k
 }
 
 // Of the lanes of `among`, those that are preferred to the set that is graded, and those to which it is.
-#[derive(Drop)]
+#[derive(Clone, Copy)]
 pub struct Compared {
     pub won: u64,
     pub lost: u64,

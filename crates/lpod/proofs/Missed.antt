@@ -66,9 +66,9 @@ module _ (P : List Rule) (s : ℕ) where
   hit : Rule → Bool
   hit r = not (misses s r)
 
-  pub all_first : T (all_first P s) ↔ ((r : Rule) → Memᴰ r P → degree s r ≡ 1)
+  pub all_first_lem : T (all_first P s) ↔ ((r : Rule) → Memᴰ r P → degree s r ≡ 1)
   unfolding all_first hit
-  all_first = (
+  all_first_lem = (
     (λ t r m. hit_first s r (T_not (misses s r) (every_at hit P t r m))),
     (λ f. every_made hit P (λ r m. not_T (misses s r) (λ t. missed_not s r t (f r m)))),
   )
@@ -92,7 +92,7 @@ preferred_misses p m s t r i u = not_missed s r (λ e. missed_not m r u (first (
 module _ (p : Program) (M s : ℕ) where
   pub first_over : T (all_first (rules p) M) → (T (all_first (rules p) s) → ⊥) → T (preferred p M s)
   first_over t n =
-      let f = (all_first (rules p) M).0 t in
+      let f = (all_first_lem (rules p) M).0 t in
       let x = not_first (rules p) s n in
       (preferred_says p M s).1 (record {
         k = 1;
@@ -104,7 +104,7 @@ module _ (p : Program) (M s : ℕ) where
 
   pub none_over_first : T (all_first (rules p) s) → T (preferred p M s) → ⊥
   none_over_first t o =
-      let f = (all_first (rules p) s).0 t in
+      let f = (all_first_lem (rules p) s).0 t in
       ((preferred_says p M s).0 o).strict (λ r m e. f r m ∙ sym (hit_first M r (λ u. missed_not s r (preferred_misses p M s o r m u) (f r m))) ∙ e)
 
 -- ---- over any relation: those of a list that pass a test are preferred to all others of it, and none of it is preferred to them

@@ -8,21 +8,21 @@ use super::rows::Row;
 use super::{accept, fields, rows};
 
 // What stands at a row number: a row, with its three counts and the place of its first literal, or nothing.
-#[derive(Drop)]
+#[derive(Clone, Copy)]
 pub enum Step {
     Row(Row),
     Past,
 }
 
 // A page and the number of the row that is read next.
-#[derive(Drop)]
+#[derive(Clone, Copy)]
 pub struct Reader<'a> {
     pub src: &'a [u8],
     pub at: u16,
 }
 
 // Opening answers the page's refusal number, and a reader.
-#[derive(Drop)]
+#[derive(Clone, Copy)]
 pub struct Opened<'a> {
     pub no: u16,
     pub reader: Reader<'a>,

@@ -8,7 +8,7 @@ ghost use Rattle.page.specs.Rows as means;
 use super::fields;
 
 // One row as it stands on the page: its three counts and the place of its first literal.
-#[derive(Drop)]
+#[derive(Clone, Copy)]
 pub struct Row {
     pub head: u8,
     pub pos: u8,

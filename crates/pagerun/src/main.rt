@@ -1,5 +1,7 @@
 // Reads a flag word (two bytes, low first) and a page from standard input, and prints the page's answer sets with their degrees, which of them
 // are best, and the pick. A refusal is printed as its number.
+#![tactic(auto)]
+
 ghost use Rattle.std.specs.Prelude.{◌≡◌, ◌+◌, ◌<◌, get_or};
 
 use libc::{STDIN_FILENO, STDOUT_FILENO};

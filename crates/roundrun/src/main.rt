@@ -1,5 +1,7 @@
 // Reads a flag word, a first and a last set (two bytes each, low first) and a page from standard input. For each set from the first to the last
 // it prints the set's atoms and how many rounds add something on the way to the set. A refusal is printed as its number and ends the list.
+#![tactic(auto)]
+
 use libc::{STDIN_FILENO, STDOUT_FILENO};
 use page::fields;
 use routes::reduct;

@@ -118,7 +118,7 @@ fn count_rounds(rows: &[u64], flags: u16, set: u16) -> u32
 }
 
 // What the count of rounds answers.
-#[derive(Drop)]
+#[derive(Clone, Copy)]
 pub struct Counted {
     pub no: u16,
     pub count: u32,

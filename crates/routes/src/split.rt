@@ -11,7 +11,7 @@ use page::accept;
 use words::{read, row, rows};
 
 // The answer: the refusal number, how many split programs have the set as answer set, and whether one has.
-#[derive(Drop)]
+#[derive(Clone, Copy)]
 pub struct Split {
     pub no: u16,
     pub count: u16,

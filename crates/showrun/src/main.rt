@@ -1,5 +1,7 @@
 // Reads three readings (four bytes each, low first: live, second, held), a flag word (two bytes, low first) and a page from standard input, and
 // prints what the display shows: the case and the bits of its reading in hexadecimal, `no number`, or the number of a refusal.
+#![tactic(auto)]
+
 ghost use Rattle.std.specs.Prelude.{◌≡◌, ◌≤◌, length, take};
 ghost use Rattle.showrun.specs.Says as means;
 
@@ -16,7 +18,7 @@ fn reading_at(input: &[u8], low: u8, high: u8) -> f32
 }
 
 // A few bytes of text: so many from the start, and zeros fill the rest.
-#[derive(Drop)]
+#[derive(Clone, Copy)]
 struct Text {
     bytes: [u8; 9],
     length: usize,

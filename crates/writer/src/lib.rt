@@ -1,5 +1,7 @@
 // Writes pages: from a number of atoms, rows of three counts, literals and pairs to the bytes of the page, in lent memory. The page is made in memory
 // of this call and checked as any page is; only where it is accepted, and there is room for it, is it copied to the lent slice.
+#![tactic(auto)]
+
 ghost use Rattle.std.specs.Prelude.{◌≡◌, false, ◌+◌, ◌*◌, ◌/◌, ◌≤◌, ◌<◌, length};
 ghost use Rattle.std.proofs.lemmas.List.Edits.{sets};
 ghost use Rattle.lanes.specs.Entries.{over};
@@ -11,7 +13,7 @@ ghost use Rattle.writer.specs.Writes as means;
 use page::{accept, fields, ranges};
 
 // The refusal number, and how many bytes the page has; 0 where refused.
-#[derive(Drop)]
+#[derive(Clone, Copy)]
 pub struct Written {
     pub no: u16,
     pub length: u16,

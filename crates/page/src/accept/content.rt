@@ -51,7 +51,7 @@ fn bodies_rise(page: &[u8], row: rows::Row) -> bool
 }
 
 // What one walk over the rows sees of conditions 5 and 7.
-#[derive(Drop)]
+#[derive(Clone, Copy)]
 pub struct Seen {
     pub misfit: bool,
     pub unsorted: bool,
