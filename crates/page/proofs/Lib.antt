@@ -6,4 +6,3 @@ pub mod Accepted
 pub mod AcceptedAtoms
 pub mod RowSteps
 pub mod ReaderSteps
-pub mod ReaderOwns
