@@ -6,16 +6,9 @@ use lib.Dec.{eqb}
 use borrow.Author.Rules.{rules}
 use Rattle.words.specs.Coded.{rule_in}
 use Rattle.words.proofs.Places.{some_place}
-use Rattle.words.proofs.row.head_in.Statement.{statement}
-use Rattle.words.proofs.row.head_in.Tie as tie
+use Rattle.words.proofs.row.head_in.Goals as goal
 
-head-place-requires : tie.Need-head-place-requires
-head-place-requires c κs = search rules
-
-returns : tie.Need-returns
+pub returns : goal.returns
 returns c =
-    let a = c.before.args in
+    let a = c.args in
     ap (λ (k : ℕ). not (eqb k 0)) c.head_place.ensures ∙ sym (some_place (rule_in a.row).head a.s 0)
-
-pub head-in-spec : {M : Type 1} → statement M
-head-in-spec = tie.close (tie.spec head-place-requires returns)

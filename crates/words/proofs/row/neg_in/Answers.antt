@@ -7,20 +7,10 @@ use lib.Dec.{eqb}
 use borrow.Author.Rules.{rules}
 use Rattle.words.specs.Coded.{rule_in, neg_set}
 use Rattle.words.proofs.Bodies.{body_some}
-use Rattle.words.proofs.row.neg_in.Statement.{statement}
-use Rattle.words.proofs.row.neg_in.Tie as tie
+use Rattle.words.proofs.row.neg_in.Goals as goal
 
-cast-common : tie.Need-overflow-cast-common
-cast-common c = search rules
-
-common-requires : tie.Need-common-requires
-common-requires c κs = search rules
-
-returns : tie.Need-returns
+pub returns : goal.returns
 unfolding rule_in neg_set
 returns c =
-    let a = c.before.args in
+    let a = c.args in
     ap (λ (k : ℕ). not (eqb k 0)) c.common.ensures ∙ sym (body_some (a.row / 65536 % 65536) a.s (omega arith))
-
-pub neg-in-spec : {M : Type 1} → statement M
-neg-in-spec = tie.close (tie.spec cast-common common-requires returns)
