@@ -1,0 +1,33 @@
+-- `answer::no_pair` takes one pair after the other. Assumes nothing.
+use Prim.Native.Nat.{ℕ, ◌-◌, ◌≤◌, ◌<◌}
+use mathlib.Core.Path.{◌≡◌, refl, sym, ◌∙◌}
+use mathlib.Core.Bool.{◌&&◌}
+use mathlib.Core.List.{map}
+use native.Mathlib.Omega.{arith}
+use lib.ListN.{length, drop}
+use Rattle.atoms.specs.Atoms.{has}
+use Rattle.lpod.specs.Satisfied.{no_pair}
+use Rattle.words.specs.Coded.{pair_in, pairs_in}
+use Rattle.words.proofs.Rest.{rest_step, rest_none}
+use Rattle.lanes.specs.Lanes.{column}
+use Rattle.lanes.proofs.Answering.{pair_turn, pair_end}
+use Rattle.lanes.proofs.answer.no_pair.Goals as goal
+
+pub loop-n-init : goal.loop-n-init
+unfolding pairs_in
+loop-n-init c = (omega arith, λ j l. refl)
+
+pub loop-n-preserved : goal.loop-n-preserved
+loop-n-preserved c =
+    let h = c.loop-n in
+    let a = c.args in (
+      omega arith,
+      λ j l. h.invariant.1 j l ∙ pair_turn (rest_step pair_in a.pairs.now h.n (omega arith) _ refl) (column a.w.now j) h.ok c.pair_held.result j l
+          (omega (arith, c.pair_held.type_inv)) (c.pair_held.ensures j l),
+    )
+
+pub returns : goal.returns
+returns c =
+    let h = c.loop-n in
+    let a = c.args in
+    λ j l. sym (h.invariant.1 j l ∙ pair_end (rest_none pair_in a.pairs.now h.n (omega arith)) _ _)

@@ -1,0 +1,20 @@
+-- `answer::no_pair` takes one pair after the other. Assumes nothing.
+use Prim.Native.Nat.{ℕ, ◌-◌, ◌≤◌, ◌<◌}
+use mathlib.Core.Path.{◌≡◌, refl, sym, ◌∙◌}
+use mathlib.Core.Bool.{◌&&◌}
+use mathlib.Core.List.{map}
+use native.Mathlib.Omega.{arith}
+use lib.ListN.{length, drop}
+use Rattle.atoms.specs.Atoms.{has}
+use Rattle.lpod.specs.Satisfied.{no_pair}
+use Rattle.words.specs.Coded.{pair_in, pairs_in}
+use Rattle.words.proofs.Rest.{rest_step, rest_none}
+use Rattle.lanes.specs.Lanes.{column}
+use Rattle.lanes.proofs.Answering.{pair_turn, pair_end}
+use Rattle.lanes.proofs.answer.no_pair.Given as goal
+
+abbrev pub invariant-loop-n : goal.invariant-loop-n
+invariant-loop-n l = (l.n ≤ length l.pairs) × ((j : ℕ) → j < 64 → (has l.x j && no_pair (pairs_in l.pairs) (column l.w j)) ≡ (has l.ok j && no_pair (map pair_in (drop l.n l.pairs)) (column l.w j)))
+
+abbrev pub decreases-loop-n : goal.decreases-loop-n
+decreases-loop-n l = length l.pairs - l.n

@@ -1,0 +1,15 @@
+-- `answer::same` goes through both word by word. Assumes nothing.
+use Prim.Native.Nat.{ℕ, ◌-◌, ◌≤◌, ◌<◌}
+use mathlib.Core.Path.{◌≡◌, sym, ap, ◌∙◌}
+use mathlib.Core.Bool.{Bool, ◌&&◌}
+use native.Mathlib.Omega.{arith}
+use Rattle.atoms.specs.Atoms.{has}
+use Rattle.lanes.proofs.Words.{has_full}
+use Rattle.lanes.proofs.Columns.{same_from, same_turn, same_end}
+use Rattle.lanes.proofs.answer.same.Given as goal
+
+abbrev pub invariant-loop-k : goal.invariant-loop-k
+invariant-loop-k l = (l.k ≤ 16) × ((j : ℕ) → j < 64 → same_from 0 l.v l.w j ≡ (has l.acc j && same_from l.k l.v l.w j))
+
+abbrev pub decreases-loop-k : goal.decreases-loop-k
+decreases-loop-k l = 16 - l.k

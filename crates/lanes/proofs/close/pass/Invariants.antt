@@ -1,0 +1,28 @@
+-- `close::pass` takes one row after the other. Assumes nothing.
+use Prim.Native.Nat.{ℕ, ◌+◌, ◌-◌, ◌*◌, ◌≤◌, ◌<◌}
+use mathlib.Core.Path.{◌≡◌, refl, sym, ◌∙◌}
+use mathlib.Core.Bool.{◌&&◌, ◌||◌}
+use mathlib.Core.List.{map}
+use native.Mathlib.Omega.{arith}
+use lib.ListN.{length, drop}
+use Rattle.atoms.specs.Atoms.{has}
+use Rattle.atoms.proofs.Bits.{has_zero}
+use Rattle.lpod.specs.Satisfied.{satisfies_all}
+use Rattle.words.specs.Coded.{rule_in, rules_in}
+use Rattle.words.proofs.Rest.{rest_step, rest_none}
+use Rattle.lanes.specs.Lanes.{column}
+use Rattle.lanes.specs.Pass as goes
+use Rattle.lanes.proofs.Words.{has_full}
+use Rattle.lanes.proofs.Passing.{ok_turn, ok_end, wait_turn, wait_end, pass_turn, pass_end, grow_turn, grow_end}
+use Rattle.lanes.proofs.close.pass.Given as goal
+
+abbrev pub invariant-loop-n : goal.invariant-loop-n
+invariant-loop-n l =
+    (l.n ≤ length l.rows) × (length l.cur ≡ 16)
+    × ((j : ℕ) → j < 64 → satisfies_all (64 * l.b + j) (rules_in l.rows) ≡ (has l.ok j && satisfies_all (64 * l.b + j) (map rule_in (drop l.n l.rows))))
+    × ((j : ℕ) → j < 64 → goes.waits (rules_in l.rows) (64 * l.b + j) (column l.initial.cur j) ≡ (has l.wait j || goes.waits (map rule_in (drop l.n l.rows)) (64 * l.b + j) (column l.cur j)))
+    × ((j : ℕ) → j < 64 → goes.pass (rules_in l.rows) (64 * l.b + j) (column l.initial.cur j) ≡ goes.pass (map rule_in (drop l.n l.rows)) (64 * l.b + j) (column l.cur j))
+    × ((j : ℕ) → j < 64 → goes.grows (rules_in l.rows) (64 * l.b + j) (column l.initial.cur j) ≡ (has l.grew j || goes.grows (map rule_in (drop l.n l.rows)) (64 * l.b + j) (column l.cur j)))
+
+abbrev pub decreases-loop-n : goal.decreases-loop-n
+decreases-loop-n l = length l.rows - l.n

@@ -1,0 +1,48 @@
+-- `marks::count` goes from block to block. What is kept: the sets counted, with those from block b on, are all, and block b lies between low and
+-- high where it is one. Past the last word no set is marked. Assumes nothing.
+use mathlib.Core.Path.{◌≡◌, ap}
+use Prim.Native.Nat.{◌+◌, ◌-◌, ◌*◌, ◌≤◌, ◌<◌}
+use native.Mathlib.Omega.{arith}
+use lib.Count.{ones-le}
+use lib.Dec.{T}
+use lib.ListN.{length, get_or}
+use Rattle.atoms.specs.Atoms.{inside}
+use Rattle.lanes.specs.Seek.{all_from}
+use Rattle.lanes.specs.Marks.{marked}
+use Rattle.atoms.proofs.Bits.{inside_test}
+use Rattle.lanes.proofs.Seek.{all_length}
+use Rattle.lanes.proofs.BlockSets.{all_low, many_block, all_none}
+use Rattle.lanes.proofs.marks.count.Goals as goal
+
+pub loop-b-init : goal.loop-b-init
+loop-b-init c =
+    let a = c.args in (
+      omega arith,
+      λ l. (inside_test a.low a.low (λ i t. t), c.requires.2),
+      omega (arith, ap length (all_low a.marks.now a.low a.high c.requires.1 (omega arith))),
+    )
+
+pub next_block-b-requires : goal.next_block-b-requires
+next_block-b-requires c =
+    let h = c.loop-b in
+    let l : h.b < 1024 = omega arith in
+    (l, (h.invariant.1 l).0, (h.invariant.1 l).1)
+
+pub loop-b-preserved : goal.loop-b-preserved
+loop-b-preserved c =
+    let h = c.loop-b in
+    let n = c.next_block-b in (
+      n.ensures.1,
+      n.ensures.3,
+      omega (
+        arith,
+        h.invariant.2,
+        many_block c.args.marks.now c.args.low c.args.high c.requires.1 h.b n.result n.ensures.0 n.ensures.1 n.ensures.2
+            (c.shared_slice_known-1.given h.b).fits,
+      ),
+    )
+
+pub returns : goal.returns
+returns c =
+    let h = c.loop-b in
+    omega (arith, h.invariant.2, ap length (all_none c.args.marks.now h.b c.loop-b-test.false h.invariant.0))

@@ -1,0 +1,40 @@
+-- `rank::at_degree` goes through the rows. What is kept: the two words, with the rows that are left, say what all rows say. Assumes nothing.
+use mathlib.Core.Logic.{⊎_elim}
+use Prim.Native.Nat.{◌-◌, ◌≤◌}
+use native.Mathlib.Omega.{arith}
+use lib.ListN.{length}
+use Rattle.lanes.proofs.Levels.{Leveled, level_start, level_here, level_there, level_end}
+use Rattle.lanes.proofs.rank.at_degree.Goals as goal
+
+pub loop-n-init : goal.loop-n-init
+loop-n-init c = let a = c.args in (omega arith, level_start a.rows.now a.grades.now a.b a.k)
+
+pub bounds-lows-n : goal.bounds-lows-n
+bounds-lows-n c = omega (arith, c.requires)
+
+pub exact-e-requires : goal.exact-e-requires
+exact-e-requires c =
+    (c.requires.0, c.requires.2 c.loop-n.n (omega arith), c.requires.1, c.requires.5)
+
+pub bounds-grades-n : goal.bounds-grades-n
+bounds-grades-n c = omega (arith, c.requires)
+
+pub loop-n-preserved : goal.loop-n-preserved
+loop-n-preserved c =
+    let x = c.exact-e in
+    let h = c.loop-n in
+    let a = c.args in
+    let r = a.rows.now in
+    let g = a.grades.now in (
+      omega arith,
+      ⊎_elim
+          (λ w. rw (w.1, w.2) (level_here r g a.b a.k h.n h.up h.down x.result (omega arith) x.ensures h.invariant.1 w.0.taken))
+          (λ w. rw (w.1, w.2) (level_there r g a.b a.k h.n h.up h.down x.result (omega arith) x.ensures h.invariant.1 w.0.left (omega (arith, x.type_inv))))
+          c.if-grades-n.branch,
+    )
+
+pub returns : goal.returns
+returns c =
+    let h = c.loop-n in
+    let a = c.args in
+    level_end a.rows.now a.grades.now a.b a.k h.n h.up h.down c.loop-n-test.false h.invariant.1

@@ -1,0 +1,34 @@
+-- `rank::deepest` goes through the rows. What is kept: the longest head is the longest so far or one of the rows that are left. Assumes nothing.
+use mathlib.Core.Path.{◌≡◌, refl, sym, ◌∙◌}
+use mathlib.Core.Logic.{⊎_elim}
+use mathlib.Core.List.{map}
+use Prim.Native.Nat.{◌-◌, ◌≤◌, max}
+use native.Mathlib.Omega.{arith}
+use lib.ListN.{length, drop}
+use Rattle.lpod.specs.Preferred.{longest}
+use Rattle.words.specs.Coded.{rule_in, rules_in}
+use Rattle.words.proofs.Rest.{rest_step, rest_none}
+use Rattle.lanes.proofs.Levels.{longest_start, longest_turn, longest_end}
+use Rattle.lanes.proofs.rank.deepest.Goals as goal
+
+pub loop-n-init : goal.loop-n-init
+unfolding rules_in
+loop-n-init c = (omega arith, omega arith, longest_start _)
+
+pub loop-n-preserved : goal.loop-n-preserved
+loop-n-preserved c =
+    let k = c.head_count-k in
+    let h = c.loop-n in
+    let a = c.args in
+    let most : c.if-most-k.most ≡ max h.most k.result =
+    ⊎_elim (λ w. omega (arith, w.0.taken, w.1)) (λ w. omega (arith, w.0.left, w.1)) c.if-most-k.branch in (
+      omega arith,
+      omega (arith, most, h.invariant.1),
+      h.invariant.2 ∙ longest_turn _ _ _ h.most k.result c.if-most-k.most (rest_step rule_in a.rows.now h.n (omega arith) _ refl) k.ensures most,
+    )
+
+pub returns : goal.returns
+returns c =
+    let h = c.loop-n in
+    let a = c.args in
+    sym (h.invariant.2 ∙ longest_end _ h.most (rest_none rule_in a.rows.now h.n (omega arith)) h.invariant.1)

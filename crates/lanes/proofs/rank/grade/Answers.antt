@@ -1,0 +1,37 @@
+-- `rank::grade` goes through the rows. What is kept: the degrees stored so far, with those of the rows that are left, are all of them. Assumes nothing.
+use mathlib.Core.Path.{◌≡◌, refl, ap, ◌∙◌}
+use mathlib.Core.List.{map, ◌++◌}
+use Prim.Native.Nat.{◌-◌, ◌≤◌}
+use native.Mathlib.Omega.{arith}
+use lib.ListN.{length, take, drop, length-set}
+use Rattle.lpod.specs.Degree.{degree}
+use Rattle.words.specs.Coded.{rule_in, rules_in}
+use Rattle.words.proofs.Filled.{filled_more, filled_all}
+use Rattle.words.proofs.Rest.{rest_step, rest_none}
+use Rattle.lanes.proofs.rank.grade.Goals as goal
+
+pub loop-n-init : goal.loop-n-init
+unfolding rules_in
+loop-n-init c = (omega arith, refl, refl)
+
+pub bounds-grades-n : goal.bounds-grades-n
+bounds-grades-n c = omega (arith, c.requires, c.loop-n.invariant.1)
+
+pub loop-n-preserved : goal.loop-n-preserved
+loop-n-preserved c =
+    let h = c.loop-n in
+    let a = c.args in (
+      omega arith,
+      length-set h.grades h.n _ ∙ h.invariant.1,
+      filled_more h.grades _ _ _ h.n c.degree.result (omega (arith, c.requires, h.invariant.1)) h.invariant.2
+          (ap (map (degree a.set)) (rest_step rule_in a.rows.now h.n (omega arith) _ refl) ∙ rw (← c.degree.ensures) refl),
+    )
+
+pub shape_of-grades : goal.shape_of-grades
+shape_of-grades c = c.loop-n.invariant.1
+
+pub returns : goal.returns
+returns c =
+    let h = c.loop-n in
+    let a = c.args in
+    (filled_all h.grades _ _ h.n (length a.rows.now) h.invariant.2 (ap (map (degree a.set)) (rest_none rule_in a.rows.now h.n (omega arith))) (omega arith), h.invariant.1)

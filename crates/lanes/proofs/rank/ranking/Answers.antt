@@ -1,0 +1,74 @@
+-- `rank::ranking` goes through the rows. What is kept: the rows stored so far, with those that rank among the rows left, are all that rank; and beside
+-- each stands the low part of its body. Assumes nothing.
+use mathlib.Core.Path.{◌≡◌, refl, sym, ap, ◌∙◌, subst}
+use mathlib.Core.Logic.{⊎_elim}
+use mathlib.Core.List.{◌++◌}
+use Prim.Native.Nat.{ℕ, ◌-◌, ◌≤◌, ◌<◌}
+use native.Mathlib.Omega.{arith}
+use lib.ListN.{length, get_or, take, drop, length-set}
+use lib.Seq.{get_or-take, length-take-le}
+use Rattle.lpod.specs.Lists.{keep}
+use Rattle.words.specs.Coded.{head_length}
+use Rattle.words.proofs.Filled.{filled_more, filled_all}
+use Rattle.lanes.specs.Lanes.{LowBody}
+use Rattle.lanes.specs.Rank.{ranks}
+use Rattle.lanes.proofs.Bodies.{low_both}
+use Rattle.lanes.proofs.RankedRows.{word_heads, keep_on, keep_off, keep_none}
+use Rattle.lanes.proofs.rank.ranking.Goals as goal
+
+pub loop-n-init : goal.loop-n-init
+loop-n-init c = let p = c.requires in (omega arith, omega arith, p.3, p.4, refl, λ i l. absurd (omega arith))
+
+pub bounds-lows-n : goal.bounds-lows-n
+bounds-lows-n c = omega (arith, c.requires.2)
+
+pub offset_bounds-kept-count : goal.offset_bounds-kept-count
+offset_bounds-kept-count c = omega (arith, c.requires.0)
+
+pub bounds-kept-count : goal.bounds-kept-count
+bounds-kept-count c = omega (arith, c.requires.0)
+
+pub offset_bounds-bodies-count : goal.offset_bounds-bodies-count
+offset_bounds-bodies-count c = omega (arith, c.requires.0)
+
+pub bounds-bodies-count : goal.bounds-bodies-count
+bounds-bodies-count c = omega (arith, c.requires.0)
+
+pub overflow_add-count : goal.overflow_add-count
+overflow_add-count c = omega (arith, c.requires.0)
+
+pub overflow_add-n : goal.overflow_add-n
+overflow_add-n c = omega (arith, c.requires.0)
+
+pub loop-n-preserved : goal.loop-n-preserved
+loop-n-preserved c =
+    let k = c.head_count in
+    let h = c.loop-n in
+    let rows = c.args.rows.now in
+    let lows = c.args.lows.now in
+    let heads : k.result ≡ head_length (get_or rows h.n 0) = k.ensures ∙ word_heads (get_or rows h.n 0) _ refl in
+    let room : h.count < 32 = omega (arith, c.requires.0, h.invariant.1) in (
+      omega arith,
+      ⊎_elim (λ w. omega (arith, w.3, h.invariant.1)) (λ w. omega (arith, w.3, h.invariant.1)) c.if-head_count-gt1.branch,
+      ⊎_elim (λ w. ap length w.1 ∙ length-set h.auto h.count _ ∙ h.invariant.2) (λ w. ap length w.1 ∙ h.invariant.2) c.if-head_count-gt1.branch,
+      ⊎_elim (λ w. ap length w.2 ∙ length-set h.bodies h.count _ ∙ h.invariant.3) (λ w. ap length w.2 ∙ h.invariant.3) c.if-head_count-gt1.branch,
+      ⊎_elim
+          (λ w. rw (w.1, w.3) (filled_more h.auto _ _ _ h.count _ (omega (arith, room, h.invariant.2)) h.invariant.4 (keep_on rows h.n (omega arith) (omega (arith, w.0.taken, heads)))))
+          (λ w. rw (w.1, w.3, ← keep_off rows h.n (omega arith) (omega (arith, w.0.left, heads))) h.invariant.4)
+          c.if-head_count-gt1.branch,
+      ⊎_elim
+          (λ w. rw (w.1, w.2, w.3) (low_both h.auto h.bodies h.count (get_or rows h.n 0) (get_or lows h.n 0) (omega (arith, room, h.invariant.2)) (omega (arith, room, h.invariant.3)) h.invariant.5 (c.requires.1 h.n (omega arith))))
+          (λ w. rw (w.1, w.2, w.3) h.invariant.5)
+          c.if-head_count-gt1.branch,
+    )
+
+pub returns : goal.returns
+returns c =
+    let h = c.loop-n in
+    let k : h.count ≤ length h.auto = omega (arith, c.requires.0, h.invariant.0, h.invariant.1, h.invariant.2) in (
+      omega (arith, c.requires.0, h.invariant.0, h.invariant.1),
+      h.invariant.2,
+      h.invariant.3,
+      filled_all h.auto _ _ h.count h.count h.invariant.4 (keep_none c.args.rows.now h.n (omega arith)) refl,
+      λ n l. let m : n < h.count = omega (arith, l, length-take-le h.count h.auto k) in subst (λ (r : ℕ). LowBody r (get_or h.bodies n 0)) (sym (get_or-take h.count h.auto n 0 m)) (h.invariant.5 n m),
+    )

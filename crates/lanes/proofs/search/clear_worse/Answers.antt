@@ -1,0 +1,52 @@
+-- `search::clear_worse` goes from block to block. What is kept: only sets to which m is preferred have lost their marks, and block c lies between low
+-- and high where it is one. Assumes nothing.
+use mathlib.Core.Path.{sym, subst}
+use mathlib.Core.Logic.{⊎_elim}
+use Prim.Native.Nat.{◌-◌, ◌≤◌, ◌<◌}
+use native.Mathlib.Omega.{arith}
+use borrow.Author.Rules.{rules}
+use lib.Dec.{T}
+use Rattle.atoms.specs.Atoms.{inside}
+use Rattle.lanes.specs.Rank.{over}
+use Rattle.lanes.specs.Left.{Cleared}
+use Rattle.lanes.proofs.Clearing.{clear_none, clear_more}
+use Rattle.lanes.proofs.search.clear_worse.Goals as goal
+
+pub grade-requires : goal.grade-requires
+grade-requires c = omega (arith, c.requires.0.few)
+
+pub loop-c-init : goal.loop-c-init
+loop-c-init c = let p = c.requires in (omega (arith, p.4), λ l. (p.2, p.3), clear_none _ _ _)
+
+pub meet-requires : goal.meet-requires
+meet-requires c =
+    let p = c.requires in
+    let g = c.grade.ensures in
+    (p.0, omega (arith, p.0.few, g.1), g.0, omega (arith, c.loop-c-test.true, p.1, c.loop-c.invariant.2.same), omega arith)
+
+pub next_block-c-requires : goal.next_block-c-requires
+next_block-c-requires c =
+    let h = c.loop-c in
+    let l : h.c < 1024 = omega (arith, c.loop-c-test.true, c.requires.1, h.invariant.2.same) in
+    (l, (h.invariant.1 l).0, (h.invariant.1 l).1)
+
+pub loop-c-smaller : goal.loop-c-smaller
+loop-c-smaller c = omega (arith, c.next_block-c.ensures.0, c.next_block-c.ensures.1)
+
+pub loop-c-preserved : goal.loop-c-preserved
+loop-c-preserved c =
+    let f = c.loop-c.invariant.2 in
+    let a = c.args in
+    let o = over a.rows.now in
+    let n = c.next_block-c in (
+      n.ensures.1,
+      n.ensures.3,
+      ⊎_elim (λ v. subst (Cleared o a.m a.marks.now) (sym v.6) (clear_more _ _ _ _ _ f v.3.ensures.1))
+          (λ v. subst (Cleared o a.m a.marks.now) (sym v.1) f) c.if-marks-c-ne0.branch,
+    )
+
+pub shape_of-marks : goal.shape_of-marks
+shape_of-marks c = c.loop-c.invariant.2.same
+
+pub returns : goal.returns
+returns c = c.loop-c.invariant.2
