@@ -22,6 +22,12 @@ loop-b-init c =
       omega (arith, ap length (all_low a.marks.now a.low a.high c.requires.1 (omega arith))),
     )
 
+pub overflow_add-n : goal.overflow_add-n
+overflow_add-n c =
+    let marks = c.args.marks.now in
+    let b = c.loop-b.b in
+    omega (arith, all_length (marked marks) 0, c.loop-b.invariant.2, ones-le 64 (get_or marks b 0) (omega (arith, c.type_inv.marks b)))
+
 pub next_block-b-requires : goal.next_block-b-requires
 next_block-b-requires c =
     let h = c.loop-b in
@@ -38,7 +44,7 @@ loop-b-preserved c =
         arith,
         h.invariant.2,
         many_block c.args.marks.now c.args.low c.args.high c.requires.1 h.b n.result n.ensures.0 n.ensures.1 n.ensures.2
-            (c.shared_slice_known-1.given h.b).fits,
+            (omega (arith, c.type_inv.marks h.b)),
       ),
     )
 

@@ -7,19 +7,7 @@ use lib.Count.{count_trailing_zeros}
 use lib.ListN.{length}
 use lib.Seq.{sets}
 use Rattle.lanes.proofs.Runs.{ToStore, Run, next_one, runs_word, runs_all, runs_done, run_length, run_stored, run_same, one_stored, one_left}
-use Rattle.lanes.proofs.marks.store_each.Reads as reads
-use Rattle.lanes.proofs.marks.store_each.Lts as lts
 use Rattle.lanes.proofs.marks.store_each.Goals as goal
-
--- the bit in hand is a run of one
-run_at : (c : lts.In-loop reads.Pre reads.Post invariant-loop decreases-loop)
-    → Run c.before.before.before.args.marks.now c.before.before.before.args.b c.before.loop.s
-    (count_trailing_zeros 64 c.before.loop.x) (c.before.loop.x / 2 ^ count_trailing_zeros 64 c.before.loop.x) 1
-run_at c =
-    let h = c.before.loop in
-    let known = c.before.before in
-    let a = known.before.args in
-    next_one a.marks.now a.b h.s h.x h.invariant.0 h.invariant.2 (known.shared-slice-known.given a.b).fits c.loop-test.true
 
 pub loop-x-init : goal.loop-x-init
 loop-x-init c =
@@ -27,40 +15,30 @@ loop-x-init c =
     let e = runs_all a.marks.now a.b in
     (omega arith, omega arith, runs_word a.marks.now a.b, refl, ap (λ (l : List ℕ). a.k + length l) e, ap (sets a.out.now a.k) e)
 
-pub overflow_add-s : goal.overflow_add-s
-overflow_add-s c = let r = run_at c in omega arith
-
 pub overflow_cast-out : goal.overflow_cast-out
-overflow_cast-out c = let r = run_at c in omega arith
+overflow_cast-out c =
+    let r = next_one c.args.marks.now c.args.b c.loop-x.s c.loop-x.x c.loop-x.invariant.0 c.loop-x.invariant.2 (omega (arith, c.type_inv.marks c.args.b)) c.loop-x-test.true in
+    omega arith
 
 pub offset_bounds-out-at : goal.offset_bounds-out-at
-offset_bounds-out-at c = let r = run_at c in omega (arith, run_length r, c.loop-x.invariant.4)
+offset_bounds-out-at c = let r = next_one c.args.marks.now c.args.b c.loop-x.s c.loop-x.x c.loop-x.invariant.0 c.loop-x.invariant.2 (omega (arith, c.type_inv.marks c.args.b)) c.loop-x-test.true in omega (arith, run_length r, c.loop-x.invariant.4)
 
 pub bounds-out-at : goal.bounds-out-at
 bounds-out-at c =
-    let r = run_at c in
+    let r = next_one c.args.marks.now c.args.b c.loop-x.s c.loop-x.x c.loop-x.invariant.0 c.loop-x.invariant.2 (omega (arith, c.type_inv.marks c.args.b)) c.loop-x-test.true in
     let h = c.loop-x.invariant in
     omega (arith, run_length r, h.3, h.4)
 
 pub overflow_add-at : goal.overflow_add-at
-overflow_add-at c = let r = run_at c in omega (arith, run_length r, c.loop-x.invariant.4)
-
-pub overflow_add-s-in-loop-x : goal.overflow_add-s-in-loop-x
-overflow_add-s-in-loop-x c = let r = run_at c in omega arith
-
-pub overflow_cast-x-in-loop-x : goal.overflow_cast-x-in-loop-x
-overflow_cast-x-in-loop-x c = let r = run_at c in omega arith
+overflow_add-at c = let r = next_one c.args.marks.now c.args.b c.loop-x.s c.loop-x.x c.loop-x.invariant.0 c.loop-x.invariant.2 (omega (arith, c.type_inv.marks c.args.b)) c.loop-x-test.true in omega (arith, run_length r, c.loop-x.invariant.4)
 
 pub overflow_shr-x : goal.overflow_shr-x
-overflow_shr-x c = (run_at c).low
-
-pub loop-x-smaller : goal.loop-x-smaller
-loop-x-smaller c = let r = run_at c in omega arith
+overflow_shr-x c = (next_one c.args.marks.now c.args.b c.loop-x.s c.loop-x.x c.loop-x.invariant.0 c.loop-x.invariant.2 (omega (arith, c.type_inv.marks c.args.b)) c.loop-x-test.true).low
 
 pub loop-x-preserved : goal.loop-x-preserved
 loop-x-preserved c =
     let h = c.loop-x in
-    let r = run_at c in
+    let r = next_one c.args.marks.now c.args.b c.loop-x.s c.loop-x.x c.loop-x.invariant.0 c.loop-x.invariant.2 (omega (arith, c.type_inv.marks c.args.b)) c.loop-x-test.true in
     let e = one_stored h.out h.at (h.s + count_trailing_zeros 64 h.x) in (
       omega (arith, h.invariant.0),
       r.fits,

@@ -8,21 +8,7 @@ use lib.ListN.{length}
 use lib.Seq.{sets}
 use Rattle.lanes.proofs.Words.{full}
 use Rattle.lanes.proofs.Runs.{ToStore, Run, next_run, runs_word, runs_all, runs_done, run_length, run_stored, run_same}
-use Rattle.lanes.proofs.marks.store_runs.Reads as reads
-use Rattle.lanes.proofs.marks.store_runs.Lts as lts
-use Rattle.lanes.proofs.marks.store_run.Reads as store-run-reads
 use Rattle.lanes.proofs.marks.store_runs.Goals as goal
-
--- the run in hand
-run_at : (c : lts.In-loop (store-run-reads.Asked, store-run-reads.Learnt) reads.Pre reads.Post invariant-loop decreases-loop)
-    → Run c.before.before.before.before.before.args.marks.now c.before.before.before.before.before.args.b c.before.loop.s
-    (count_trailing_zeros 64 c.before.loop.x) (c.before.loop.x / 2 ^ count_trailing_zeros 64 c.before.loop.x)
-    (count_trailing_zeros 64 (full - c.before.loop.x / 2 ^ count_trailing_zeros 64 c.before.loop.x))
-run_at c =
-    let h = c.before.loop in
-    let known = c.before.before.before.before in
-    let a = known.before.args in
-    next_run a.marks.now a.b h.s h.x h.invariant.0 h.invariant.2 (known.shared-slice-known.given a.b).fits c.loop-test.true
 
 pub loop-x-init : goal.loop-x-init
 loop-x-init c =
@@ -30,50 +16,36 @@ loop-x-init c =
     let e = runs_all a.marks.now a.b in
     (omega arith, omega arith, runs_word a.marks.now a.b, refl, ap (λ (l : List ℕ). a.k + length l) e, ap (sets a.out.now a.k) e)
 
-pub overflow_cast-y : goal.overflow_cast-y
-overflow_cast-y c = let r = run_at c in omega arith
-
 pub overflow_shr-y : goal.overflow_shr-y
-overflow_shr-y c = (run_at c).low
-
-pub overflow_add-s : goal.overflow_add-s
-overflow_add-s c = let r = run_at c in omega arith
+overflow_shr-y c = (next_run c.args.marks.now c.args.b c.loop-x.s c.loop-x.x c.loop-x.invariant.0 c.loop-x.invariant.2 (omega (arith, c.type_inv.marks c.args.b)) c.loop-x-test.true).low
 
 pub store_run-requires : goal.store_run-requires
 store_run-requires c =
-    let r = run_at c.before in
+    let r = next_run c.args.marks.now c.args.b c.loop-x.s c.loop-x.x c.loop-x.invariant.0 c.loop-x.invariant.2 (omega (arith, c.type_inv.marks c.args.b)) c.loop-x-test.true in
     let h = c.loop-x.invariant in
     let n = run_length r in
     (omega (arith, h.4), omega (arith, h.3, h.4), omega arith)
 
-pub overflow_cast-at : goal.overflow_cast-at
-overflow_cast-at c = let r = run_at c.before in omega arith
-
 pub overflow_add-at : goal.overflow_add-at
 overflow_add-at c =
-    let r = run_at i in
+    let r = next_run c.args.marks.now c.args.b c.loop-x.s c.loop-x.x c.loop-x.invariant.0 c.loop-x.invariant.2 (omega (arith, c.type_inv.marks c.args.b)) c.loop-x-test.true in
     omega (arith, run_length r, c.loop-x.invariant.4)
 
-pub overflow_add-s-in-loop-x : goal.overflow_add-s-in-loop-x
-overflow_add-s-in-loop-x c = let r = run_at c.before in omega arith
-
 pub overflow_sub-x : goal.overflow_sub-x
-overflow_sub-x c = let r = run_at c.before in omega arith
-
-pub overflow_cast-x-in-loop-x : goal.overflow_cast-x-in-loop-x
-overflow_cast-x-in-loop-x c = let r = run_at c.before in omega arith
-
-pub overflow_shr-x : goal.overflow_shr-x
-overflow_shr-x c = let r = run_at c.before in omega arith
+overflow_sub-x c =
+    let r = next_run c.args.marks.now c.args.b c.loop-x.s c.loop-x.x c.loop-x.invariant.0 c.loop-x.invariant.2 (omega (arith, c.type_inv.marks c.args.b)) c.loop-x-test.true in
+    omega arith
 
 pub loop-x-smaller : goal.loop-x-smaller
-loop-x-smaller c = let r = run_at c.before in omega arith
+loop-x-smaller c =
+    let r = next_run c.args.marks.now c.args.b c.loop-x.s c.loop-x.x c.loop-x.invariant.0 c.loop-x.invariant.2 (omega (arith, c.type_inv.marks c.args.b)) c.loop-x-test.true in
+    omega arith
 
 pub loop-x-preserved : goal.loop-x-preserved
 loop-x-preserved c =
     let e = c.store_run.ensures in
     let h = c.loop-x in
-    let r = run_at i in (
+    let r = next_run c.args.marks.now c.args.b c.loop-x.s c.loop-x.x c.loop-x.invariant.0 c.loop-x.invariant.2 (omega (arith, c.type_inv.marks c.args.b)) c.loop-x-test.true in (
       omega (arith, h.invariant.0),
       r.fits,
       r.left,

@@ -5,6 +5,7 @@ use native.Mathlib.Omega.{arith}
 use lib.ListN.{length}
 use Rattle.lanes.proofs.Levels.{Leveled, level_start, level_here, level_there, level_end}
 use Rattle.lanes.proofs.rank.at_degree.Goals as goal
+use Rattle.lanes.proofs.rank.at_degree.Goals.{then-grades-n, else-grades-n}
 
 pub loop-n-init : goal.loop-n-init
 loop-n-init c = let a = c.args in (omega arith, level_start a.rows.now a.grades.now a.b a.k)
@@ -27,10 +28,10 @@ loop-n-preserved c =
     let r = a.rows.now in
     let g = a.grades.now in (
       omega arith,
-      ⊎_elim
-          (λ w. rw (w.1, w.2) (level_here r g a.b a.k h.n h.up h.down x.result (omega arith) x.ensures h.invariant.1 w.0.taken))
-          (λ w. rw (w.1, w.2) (level_there r g a.b a.k h.n h.up h.down x.result (omega arith) x.ensures h.invariant.1 w.0.left (omega (arith, x.type_inv))))
-          c.if-grades-n.branch,
+      elim c.if-grades-n.branch [
+        then-grades-n w ↦ rw (w.up-is, w.down-is) (level_here r g a.b a.k h.n h.up h.down x.result (omega arith) x.ensures h.invariant.1 w.if-grades-n.true)
+      | else-grades-n w ↦ rw (w.up-is, w.down-is) (level_there r g a.b a.k h.n h.up h.down x.result (omega arith) x.ensures h.invariant.1 w.if-grades-n.false (omega (arith, x.type_inv)))
+      ],
     )
 
 pub returns : goal.returns

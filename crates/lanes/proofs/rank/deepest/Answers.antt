@@ -10,6 +10,7 @@ use Rattle.words.specs.Coded.{rule_in, rules_in}
 use Rattle.words.proofs.Rest.{rest_step, rest_none}
 use Rattle.lanes.proofs.Levels.{longest_start, longest_turn, longest_end}
 use Rattle.lanes.proofs.rank.deepest.Goals as goal
+use Rattle.lanes.proofs.rank.deepest.Goals.{then-most-k, else-most-k}
 
 pub loop-n-init : goal.loop-n-init
 unfolding rules_in
@@ -21,7 +22,7 @@ loop-n-preserved c =
     let h = c.loop-n in
     let a = c.args in
     let most : c.if-most-k.most ≡ max h.most k.result =
-    ⊎_elim (λ w. omega (arith, w.0.taken, w.1)) (λ w. omega (arith, w.0.left, w.1)) c.if-most-k.branch in (
+        elim c.if-most-k.branch [ then-most-k w ↦ omega arith | else-most-k w ↦ omega arith ] in (
       omega arith,
       omega (arith, most, h.invariant.1),
       h.invariant.2 ∙ longest_turn _ _ _ h.most k.result c.if-most-k.most (rest_step rule_in a.rows.now h.n (omega arith) _ refl) k.ensures most,

@@ -5,6 +5,7 @@ use Prim.Native.Nat.{ℕ, ◌+◌, ◌-◌, ◌≤◌}
 use native.Mathlib.Omega.{arith}
 use Rattle.lanes.proofs.FirstRows.{FirstTo, first_none, first_on, first_off}
 use Rattle.lanes.proofs.rank.first_rows.Goals as goal
+use Rattle.lanes.proofs.rank.first_rows.Goals.{then-grades-i-eq1, else-grades-i-eq1}
 
 pub loop-i-init : goal.loop-i-init
 loop-i-init c = (omega arith, first_none c.args.grades.now)
@@ -26,10 +27,10 @@ loop-i-preserved c =
     let h = c.loop-i in
     let g = c.args.grades.now in (
       omega arith,
-      ⊎_elim
-          (λ w. subst (FirstTo g (h.i + 1)) (sym w.1) (first_on g h.i h.x h.invariant.1 (omega (arith, c.requires.0)) w.0.taken))
-          (λ w. subst (FirstTo g (h.i + 1)) (sym w.1) (first_off g h.i h.x h.invariant.1 w.0.left))
-          c.if-grades-i-eq1.branch,
+      elim c.if-grades-i-eq1.branch [
+        then-grades-i-eq1 w ↦ subst (FirstTo g (h.i + 1)) (sym w.x-is) (first_on g h.i h.x h.invariant.1 (omega (arith, c.requires.0)) w.if-grades-i-eq1.true)
+      | else-grades-i-eq1 w ↦ subst (FirstTo g (h.i + 1)) (sym w.x-is) (first_off g h.i h.x h.invariant.1 w.if-grades-i-eq1.false)
+      ],
     )
 
 pub returns : goal.returns

@@ -10,6 +10,7 @@ use Rattle.atoms.specs.Atoms.{has}
 use Rattle.atoms.proofs.Bits.{has_zero}
 use Rattle.lanes.proofs.FirstRows.{FirstsTo, firsts_none, firsts_on, firsts_off}
 use Rattle.lanes.proofs.rank.firsts.Goals as goal
+use Rattle.lanes.proofs.rank.firsts.Goals.{then-e-among-ne0, else-e-among-ne0}
 
 pub returns-then-among-eq0 : goal.returns-then-among-eq0
 returns-then-among-eq0 c = λ n j l m t e. absurd (subst T (ap (λ (x : ℕ). has x j) c.if-among-eq0.true ∙ has_zero j) t)
@@ -43,10 +44,10 @@ loop-n-preserved c =
     let a = c.args in
     let r = a.rows.now in (
       omega arith,
-      ⊎_elim
-          (λ w. rw w.1 (firsts_on r a.b a.among h.n h.x h.invariant.1 (omega (arith, c.requires.3))))
-          (λ w. rw w.1 (firsts_off r a.b a.among h.n h.x h.invariant.1 x.result x.ensures w.0.left))
-          c.if-e-among-ne0.branch,
+      elim c.if-e-among-ne0.branch [
+        then-e-among-ne0 w ↦ rw w.x-is (firsts_on r a.b a.among h.n h.x h.invariant.1 (omega (arith, c.requires.3)))
+      | else-e-among-ne0 w ↦ rw w.x-is (firsts_off r a.b a.among h.n h.x h.invariant.1 x.result x.ensures w.if-e-among-ne0.false)
+      ],
     )
 
 pub returns : goal.returns

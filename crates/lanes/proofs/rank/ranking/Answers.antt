@@ -15,6 +15,7 @@ use Rattle.lanes.specs.Rank.{ranks}
 use Rattle.lanes.proofs.Bodies.{low_both}
 use Rattle.lanes.proofs.RankedRows.{word_heads, keep_on, keep_off, keep_none}
 use Rattle.lanes.proofs.rank.ranking.Goals as goal
+use Rattle.lanes.proofs.rank.ranking.Goals.{then-head_count-gt1, else-head_count-gt1}
 
 pub loop-n-init : goal.loop-n-init
 loop-n-init c = let p = c.requires in (omega arith, omega arith, p.3, p.4, refl, λ i l. absurd (omega arith))
@@ -49,26 +50,38 @@ loop-n-preserved c =
     let heads : k.result ≡ head_length (get_or rows h.n 0) = k.ensures ∙ word_heads (get_or rows h.n 0) _ refl in
     let room : h.count < 32 = omega (arith, c.requires.0, h.invariant.1) in (
       omega arith,
-      ⊎_elim (λ w. omega (arith, w.3, h.invariant.1)) (λ w. omega (arith, w.3, h.invariant.1)) c.if-head_count-gt1.branch,
-      ⊎_elim (λ w. ap length w.1 ∙ length-set h.auto h.count _ ∙ h.invariant.2) (λ w. ap length w.1 ∙ h.invariant.2) c.if-head_count-gt1.branch,
-      ⊎_elim (λ w. ap length w.2 ∙ length-set h.bodies h.count _ ∙ h.invariant.3) (λ w. ap length w.2 ∙ h.invariant.3) c.if-head_count-gt1.branch,
-      ⊎_elim
-          (λ w. rw (w.1, w.3) (filled_more h.auto _ _ _ h.count _ (omega (arith, room, h.invariant.2)) h.invariant.4 (keep_on rows h.n (omega arith) (omega (arith, w.0.taken, heads)))))
-          (λ w. rw (w.1, w.3, ← keep_off rows h.n (omega arith) (omega (arith, w.0.left, heads))) h.invariant.4)
-          c.if-head_count-gt1.branch,
-      ⊎_elim
-          (λ w. rw (w.1, w.2, w.3) (low_both h.auto h.bodies h.count (get_or rows h.n 0) (get_or lows h.n 0) (omega (arith, room, h.invariant.2)) (omega (arith, room, h.invariant.3)) h.invariant.5 (c.requires.1 h.n (omega arith))))
-          (λ w. rw (w.1, w.2, w.3) h.invariant.5)
-          c.if-head_count-gt1.branch,
+      elim c.if-head_count-gt1.branch [
+        then-head_count-gt1 w ↦ omega (arith, w.count-is, h.invariant.1)
+      | else-head_count-gt1 w ↦ omega (arith, w.count-is, h.invariant.1)
+      ],
+      elim c.if-head_count-gt1.branch [
+        then-head_count-gt1 w ↦ ap length w.kept-is ∙ length-set h.kept h.count _ ∙ h.invariant.2
+      | else-head_count-gt1 w ↦ ap length w.kept-is ∙ h.invariant.2
+      ],
+      elim c.if-head_count-gt1.branch [
+        then-head_count-gt1 w ↦ ap length w.bodies-is ∙ length-set h.bodies h.count _ ∙ h.invariant.3
+      | else-head_count-gt1 w ↦ ap length w.bodies-is ∙ h.invariant.3
+      ],
+      elim c.if-head_count-gt1.branch [
+        then-head_count-gt1 w ↦
+          rw (w.kept-is, w.count-is) (filled_more h.kept _ _ _ h.count _ (omega (arith, room, h.invariant.2)) h.invariant.4 (keep_on rows h.n (omega arith) (omega (arith, w.if-head_count-gt1.true, heads))))
+      | else-head_count-gt1 w ↦
+          rw (w.kept-is, w.count-is, ← keep_off rows h.n (omega arith) (omega (arith, w.if-head_count-gt1.false, heads))) h.invariant.4
+      ],
+      elim c.if-head_count-gt1.branch [
+        then-head_count-gt1 w ↦
+          rw (w.kept-is, w.bodies-is, w.count-is) (low_both h.kept h.bodies h.count (get_or rows h.n 0) (get_or lows h.n 0) (omega (arith, room, h.invariant.2)) (omega (arith, room, h.invariant.3)) h.invariant.5 (c.requires.1 h.n (omega arith)))
+      | else-head_count-gt1 w ↦ rw (w.kept-is, w.bodies-is, w.count-is) h.invariant.5
+      ],
     )
 
 pub returns : goal.returns
 returns c =
     let h = c.loop-n in
-    let k : h.count ≤ length h.auto = omega (arith, c.requires.0, h.invariant.0, h.invariant.1, h.invariant.2) in (
+    let k : h.count ≤ length h.kept = omega (arith, c.requires.0, h.invariant.0, h.invariant.1, h.invariant.2) in (
       omega (arith, c.requires.0, h.invariant.0, h.invariant.1),
       h.invariant.2,
       h.invariant.3,
-      filled_all h.auto _ _ h.count h.count h.invariant.4 (keep_none c.args.rows.now h.n (omega arith)) refl,
-      λ n l. let m : n < h.count = omega (arith, l, length-take-le h.count h.auto k) in subst (λ (r : ℕ). LowBody r (get_or h.bodies n 0)) (sym (get_or-take h.count h.auto n 0 m)) (h.invariant.5 n m),
+      filled_all h.kept _ _ h.count h.count h.invariant.4 (keep_none c.args.rows.now h.n (omega arith)) refl,
+      λ n l. let m : n < h.count = omega (arith, l, length-take-le h.count h.kept k) in subst (λ (r : ℕ). LowBody r (get_or h.bodies n 0)) (sym (get_or-take h.count h.kept n 0 m)) (h.invariant.5 n m),
     )

@@ -11,6 +11,7 @@ use Rattle.lanes.specs.Rank.{over}
 use Rattle.lanes.specs.Left.{Cleared}
 use Rattle.lanes.proofs.Clearing.{clear_none, clear_more}
 use Rattle.lanes.proofs.search.clear_worse.Goals as goal
+use Rattle.lanes.proofs.search.clear_worse.Goals.{then-marks-c-ne0, else-marks-c-ne0}
 
 pub grade-requires : goal.grade-requires
 grade-requires c = omega (arith, c.requires.0.few)
@@ -41,8 +42,10 @@ loop-c-preserved c =
     let n = c.next_block-c in (
       n.ensures.1,
       n.ensures.3,
-      ⊎_elim (λ v. subst (Cleared o a.m a.marks.now) (sym v.6) (clear_more _ _ _ _ _ f v.3.ensures.1))
-          (λ v. subst (Cleared o a.m a.marks.now) (sym v.1) f) c.if-marks-c-ne0.branch,
+      elim c.if-marks-c-ne0.branch [
+        then-marks-c-ne0 v ↦ subst (Cleared o a.m a.marks.now) (sym v.marks-is) (clear_more _ _ _ _ _ f v.meet.ensures.1)
+      | else-marks-c-ne0 v ↦ subst (Cleared o a.m a.marks.now) (sym v.marks-is) f
+      ],
     )
 
 pub shape_of-marks : goal.shape_of-marks

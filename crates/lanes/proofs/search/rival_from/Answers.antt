@@ -20,6 +20,7 @@ use Rattle.lanes.proofs.Index.{none_first, no_rival}
 use Rattle.lanes.proofs.Clearing.{clear_none, clear_more, rivals_before}
 use Rattle.lanes.proofs.Champion.{by_rows}
 use Rattle.lanes.proofs.search.rival_from.Goals as goal
+use Rattle.lanes.proofs.search.rival_from.Goals.{then-first-index+else-x-ne0, else-first-index}
 
 pub grade-requires : goal.grade-requires
 grade-requires c = omega (arith, c.requires.0.few)
@@ -89,13 +90,18 @@ loop-c-preserved c =
     let n = c.next_block-c in
     let l : h.c < length a.marks.now = omega (arith, c.loop-c-test.true, f.same) in
     let none : NoneBetween q (64 * h.c) (64 * (h.c + 1)) =
-    ⊎_elim (λ v. word_none q h.c v.3.result (rivals_before _ _ _ _ f (by_rows _) h.c v.3.result v.3.ensures.0) v.6.left)
-    (λ v. word_none q h.c 0 (none_first _ a.marks.now h.c a.m _ a.index.now c.first_rows-first.result c.grade.ensures.0 c.first_rows-first.ensures z.firsts l v.0.left) refl) came in (
+        elim came [
+          then-first-index+else-x-ne0 v ↦ word_none q h.c v.meet-x.result (rivals_before _ _ _ _ f (by_rows _) h.c v.meet-x.result v.meet-x.ensures.0) v.if-x-ne0.false
+        | else-first-index v ↦
+            word_none q h.c 0 (none_first _ a.marks.now h.c a.m _ a.index.now c.first_rows-first.result c.grade.ensures.0 c.first_rows-first.ensures z.firsts l v.if-first-index.false) refl
+        ] in (
       n.ensures.1,
       n.ensures.3,
       h.invariant.2 ∙ scan_on o _ a.m _ _ z.between h.c n.result none n.ensures.0 n.ensures.1 n.ensures.2,
-      ⊎_elim (λ v. subst (Cleared o a.m a.marks.now) (sym v.7) (clear_more _ _ _ _ _ f v.3.ensures.1))
-          (λ v. subst (Cleared o a.m a.marks.now) (sym v.1) f) came,
+      elim came [
+        then-first-index+else-x-ne0 v ↦ subst (Cleared o a.m a.marks.now) (sym v.marks-is) (clear_more _ _ _ _ _ f v.meet-x.ensures.1)
+      | else-first-index v ↦ subst (Cleared o a.m a.marks.now) (sym v.marks-is) f
+      ],
     )
 
 pub shape_of-marks : goal.shape_of-marks
