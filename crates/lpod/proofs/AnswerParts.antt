@@ -2,7 +2,7 @@
 use mathlib.Core.Path.{◌≡◌}
 use mathlib.Core.Bool.{◌&&◌}
 use mathlib.Core.Logic.{◌↔◌}
-use mathlib.Core.List.{List, Memᴰ}
+use mathlib.Core.List.{Memᴰ}
 use Prim.Native.Nat.{ℕ}
 use lib.Dec.{T, eqb, eqb→eq, eqb_refl}
 use Rattle.atoms.proofs.Truth.{and_l, and_r, both}

@@ -8,7 +8,6 @@ use mathlib.Core.List.Memᴰ
 use mathlib.Core.List.{List, [], ◌∷◌, Memᴰ}
 use lib.Dec.{T, T_not, not_T}
 use Rattle.atoms.proofs.Truth.{true_yes, false_no}
-use Rattle.lpod.specs.Lists.{every, keep}
 use Rattle.lpod.specs.Best.{none_over, best_of}
 use Rattle.lpod.proofs.Lists.{every_at, every_made, keep_in}
 

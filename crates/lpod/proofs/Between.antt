@@ -1,6 +1,6 @@
 -- An answer set lies between the flags and flags ∪ head atoms. A raised atom's row has no body, so the set holds the atom; and the least
 -- closed set holds only atoms that some rule of the reduct gives, which are head atoms or raised. Assumes nothing.
-use mathlib.Core.Path.{◌≡◌, refl, sym, ap, ◌∙◌, subst}
+use mathlib.Core.Path.{◌≡◌, sym, subst}
 use mathlib.Core.Bool.{or-false}
 use mathlib.Core.Logic.{◌⊎◌, inl, inr, ⊎_elim}
 use mathlib.Core.List.Memᴰ
@@ -14,7 +14,7 @@ use Rattle.atoms.proofs.Bits.{has_or, has_below, in_insert, at_insert}
 use Rattle.lpod.specs.Lists.{every, some, keep, below}
 use Rattle.lpod.specs.Rule.{Rule, Program, rules, raised, fact, most_atoms, set_of, head_atoms}
 use Rattle.lpod.specs.Satisfied.{all_in, some_in, none_in, body_holds, satisfies}
-use Rattle.lpod.specs.Reduct.{Definite, reduct_row, reduct}
+use Rattle.lpod.specs.Reduct.{reduct_row, reduct}
 use Rattle.lpod.specs.Least.{Closed}
 use Rattle.lpod.specs.Answer.{answer}
 use Rattle.lpod.proofs.Lists.{in_map, map_in, in_keep, keep_in, numbers_in, in_gather}

@@ -1,7 +1,7 @@
 -- If the empty set is an answer set it is the only one; so over at most 16 atoms there are at most 65,535 answer sets, and their number
 -- fits 16 bits. The empty set satisfies every rule, so every rule has a positive atom; then no reduct has a rule to start from.
 -- Assumes nothing.
-use mathlib.Core.Path.{◌≡◌, refl, sym, ap, ◌∙◌, subst}
+use mathlib.Core.Path.{◌≡◌, refl, ap, subst}
 use mathlib.Core.Bool.{Bool, true, false, ◌&&◌, ◌||◌, not, cond}
 use mathlib.Core.List.{List, [], ◌∷◌, Memᴰ}
 use Prim.Native.Nat.{ℕ, zero, suc, ◌^◌, ◌≤◌, ◌<◌}
@@ -15,7 +15,7 @@ use Rattle.atoms.proofs.Bits.{has_zero, inside_both}
 use Rattle.lpod.specs.Lists.{some, keep, numbers}
 use Rattle.lpod.specs.Rule.{Rule, Program, rules}
 use Rattle.lpod.specs.Satisfied.{all_in, some_in, none_in, body_holds, satisfies}
-use Rattle.lpod.specs.Reduct.{Definite, reduct_row, reduct}
+use Rattle.lpod.specs.Reduct.{reduct_row, reduct}
 use Rattle.lpod.specs.Least.{Closed}
 use Rattle.lpod.specs.Answer.{answer, answer_sets}
 use Rattle.lpod.proofs.Lists.{some_at, in_gather, in_numbers, keep_length}

@@ -3,13 +3,12 @@
 use mathlib.Core.Path.{◌≡◌, sym, subst}
 use mathlib.Core.Bool.{Bool, ◌&&◌, not}
 use mathlib.Core.Logic.{◌↔◌}
-use mathlib.Core.List.{List, Memᴰ}
-use Prim.Native.Nat.{ℕ, ◌+◌, ◌-◌, ◌≤◌, ◌<◌}
+use Prim.Native.Nat.{ℕ, ◌-◌, ◌≤◌, ◌<◌}
 use native.Mathlib.Omega.{arith}
 use native.Mathlib.Decide.{dec_lt}
 use lib.Dec.{T, T_not, not_T}
 use Rattle.atoms.proofs.Truth.{and_l, and_r, both}
-use Rattle.lpod.specs.Lists.{every, some, numbers}
+use Rattle.lpod.specs.Lists.{every, numbers}
 use Rattle.lpod.specs.Preferred.{equal_at, more_at, first_more}
 use Rattle.lpod.proofs.Lists.{every_at, every_made, some_at, some_made, in_numbers, numbers_in}
 

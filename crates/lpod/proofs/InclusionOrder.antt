@@ -1,6 +1,6 @@
 -- The inclusion preference is what 000 Definition 6 says, with no bound on the degree; it is transitive and prefers no set to itself.
 -- A degree at which two collections differ is some row's degree, so it is no higher than the longest head. Assumes nothing.
-use mathlib.Core.Path.{◌≡◌, sym, subst}
+use mathlib.Core.Path.{◌≡◌, subst}
 use mathlib.Core.Bool.{Bool, true, false, ◌||◌, not}
 use mathlib.Core.Logic.{◌↔◌}
 use mathlib.Core.List.{List, Memᴰ}
@@ -8,13 +8,12 @@ use Prim.Native.Nat.{ℕ, ◌≤◌, ◌<◌}
 use native.Mathlib.Omega.{arith}
 use lib.Dec.{T, eqb, eqb→eq, eqb_refl}
 use Rattle.atoms.proofs.Truth.{imp, imp_at}
-use Rattle.lpod.specs.Lists.{every}
 use Rattle.lpod.specs.Rule.{Rule, Program, rules}
 use Rattle.lpod.specs.Degree.{degree}
 use Rattle.lpod.specs.Preferred.{within, longest, preferred}
 use Rattle.lpod.proofs.Lists.{every_at, every_made, every_fails}
 use Rattle.lpod.proofs.DegreesInRange.{degree_longest}
-use Rattle.lpod.proofs.FirstMore.{Decides, first_says, first_irreflexive, first_transitive}
+use Rattle.lpod.proofs.FirstMore.{first_says, first_irreflexive, first_transitive}
 
 -- the rules of degree k in N are among those of degree k in M
 abbrev pub Within : List Rule → ℕ → ℕ → ℕ → Type 0

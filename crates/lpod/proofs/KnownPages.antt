@@ -1,8 +1,8 @@
 -- The twelve pages with known results, under one statement about the definitions: each page says what is printed of it.
 -- Every entry is checked by computing both sides. Assumes nothing.
 use mathlib.Core.Path.{◌≡◌, refl}
-use mathlib.Core.Bool.{Bool, true, false, ◌&&◌, ◌||◌, not, cond}
-use mathlib.Core.List.{List, [], ◌∷◌, ◌++◌, map}
+use mathlib.Core.Bool.{Bool, true, false, not}
+use mathlib.Core.List.{List, [], ◌∷◌, map}
 use mathlib.Core.Option as option
 use mathlib.Core.Option.{Option}
 use Prim.Native.Nat.{ℕ, ◌^◌}
@@ -11,7 +11,7 @@ use lib.IntN.{ℤ, pos, negsuc}
 use lib.ListN.{get_or}
 use Rattle.atoms.specs.Atoms.{has, inside}
 use Rattle.lpod.specs.Lists.{every, some, keep, gather, numbers, below}
-use Rattle.lpod.specs.Rule.{Rule, Pair, Program, fact, raised, rules}
+use Rattle.lpod.specs.Rule.{Rule, Program, fact, raised, rules}
 use Rattle.lpod.specs.Satisfied.{all_in, some_in, none_in, body_holds, satisfies, satisfies_all, no_pair}
 use Rattle.lpod.specs.Reduct.{Definite, reduct_head, reduct_row, reduct}
 use Rattle.lpod.specs.Least.{closed, fire, rounds, least}

@@ -13,7 +13,7 @@ use lib.ListN.{length}
 use Rattle.atoms.specs.Atoms.{has, insert, Inside}
 use Rattle.atoms.proofs.Truth.{imp, imp_at, or_r, false_no, true_yes}
 use Rattle.atoms.proofs.Bits.{has_zero, in_insert, at_insert, of_insert, inside_both}
-use Rattle.lpod.specs.Lists.{every, keep}
+use Rattle.lpod.specs.Lists.{keep}
 use Rattle.lpod.specs.Satisfied.{all_in}
 use Rattle.lpod.specs.Reduct.{Definite}
 use Rattle.lpod.specs.Least.{closed, fire, rounds, least, Closed, IsLeast}

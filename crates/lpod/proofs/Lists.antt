@@ -1,7 +1,7 @@
 -- The laws of every, some, keep, gather and runs of numbers: what each says of the elements. By induction on the list. Assumes nothing.
 use mathlib.Core.Path.{◌≡◌, refl, sym, ap, ◌∙◌, subst}
 use mathlib.Core.Bool.{Bool, true, false, ◌&&◌, ◌||◌, cond}
-use mathlib.Core.Logic.{◌⊎◌, inl, inr, ⊎_elim}
+use mathlib.Core.Logic.{⊎_elim}
 use mathlib.Core.List.Memᴰ
 use mathlib.Core.List.{List, [], ◌∷◌, ◌++◌, map, append_assoc, Memᴰ}
 use Prim.Native.Nat.{ℕ, zero, suc, ◌+◌, ◌-◌, ◌≤◌, ◌<◌}
@@ -11,7 +11,7 @@ use native.Mathlib.Numerals.{add-one}
 use native.Mathlib.Omega.{arith}
 use lib.Dec.{T}
 use lib.ListN.{length}
-use Rattle.atoms.proofs.Truth.{and_l, and_r, both, or_l, or_r, or_cases, yes_true}
+use Rattle.atoms.proofs.Truth.{and_l, and_r, both, or_l, or_r, or_cases}
 use Rattle.lpod.specs.Lists.{every, some, keep, gather, numbers, Rising}
 
 module _ {A : Type 0} (p : A → Bool) where

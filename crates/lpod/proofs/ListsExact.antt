@@ -1,13 +1,12 @@
 -- The list of answer sets holds exactly the answer sets below 2 ^ A, and that of best sets exactly the best ones; both rise, so each set
 -- stands once. Both are kept from a run of numbers. Assumes nothing.
-use mathlib.Core.Bool.{Bool, ◌&&◌}
 use mathlib.Core.Logic.{◌↔◌}
-use mathlib.Core.List.{List, Memᴰ}
-use Prim.Native.Nat.{ℕ, ◌^◌, ◌≤◌, ◌<◌}
+use mathlib.Core.List.{Memᴰ}
+use Prim.Native.Nat.{ℕ, ◌^◌, ◌<◌}
 use native.Mathlib.Omega.{arith}
 use lib.Dec.{T}
 use Rattle.atoms.proofs.Truth.{and_l, and_r, both}
-use Rattle.lpod.specs.Lists.{keep, below, Rising}
+use Rattle.lpod.specs.Lists.{below, Rising}
 use Rattle.lpod.specs.Rule.{Program}
 use Rattle.lpod.specs.Answer.{answer, answer_sets}
 use Rattle.lpod.specs.Preferred.{preferred}

@@ -1,12 +1,11 @@
 -- The pick is none exactly where there is no answer set; otherwise it is a best set, and the lowest-numbered one. And every answer set that
 -- is not best has a best one preferred to it. From the best_above argument over the inclusion order, and a rising list's first element
 -- is its lowest. Assumes nothing.
-use mathlib.Core.Path.{◌≡◌, refl, sym, ap, ◌∙◌, subst}
-use mathlib.Core.Bool.{Bool, ◌&&◌}
-use mathlib.Core.Logic.{◌⊎◌, inl, inr, ⊎_elim, ◌↔◌}
+use mathlib.Core.Path.{◌≡◌, refl, sym}
+use mathlib.Core.Logic.{⊎_elim, ◌↔◌}
 use mathlib.Core.List.Memᴰ
 use mathlib.Core.List.{List, [], ◌∷◌, Memᴰ}
-use mathlib.Core.Option.{Option, some, none}
+use mathlib.Core.Option.{some, none}
 use Prim.Native.Nat.{ℕ, ◌^◌, ◌≤◌, ◌<◌}
 use native.Mathlib.Omega.{arith}
 use lib.Dec.{T}
@@ -15,7 +14,7 @@ use Rattle.lpod.specs.Lists.{Rising}
 use Rattle.lpod.specs.Rule.{Program}
 use Rattle.lpod.specs.Answer.{answer, answer_sets}
 use Rattle.lpod.specs.Preferred.{preferred}
-use Rattle.lpod.specs.Best.{none_over, best_of, first_of, best, best_sets, pick}
+use Rattle.lpod.specs.Best.{none_over, first_of, best, best_sets, pick}
 use Rattle.lpod.proofs.BestAbove.{best_above, has_best}
 use Rattle.lpod.proofs.InclusionOrder.{preferred_irreflexive, preferred_transitive}
 use Rattle.lpod.proofs.ListsExact.{answers_exact, bests_exact, bests_rise}

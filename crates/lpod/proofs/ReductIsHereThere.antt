@@ -1,9 +1,9 @@
 -- The reduct test and the here-and-there test say the same, for every program and every set. Row by row: for H inside T, and T satisfying
 -- the row, (H, T) is a model of the row exactly where H is closed under what the row gives the reduct. So a smaller model is a smaller
 -- closed set, and the other way round; and T is always closed under its own reduct. Assumes nothing.
-use mathlib.Core.Path.{◌≡◌, refl, sym, ap, ◌∙◌, subst}
+use mathlib.Core.Path.{◌≡◌, refl, sym, subst}
 use mathlib.Core.Bool.{Bool, true, false, ◌&&◌, ◌||◌, not, cond}
-use mathlib.Core.Logic.{◌⊎◌, inl, inr, ⊎_elim}
+use mathlib.Core.Logic.{⊎_elim}
 use mathlib.Core.List.Memᴰ
 use mathlib.Core.List.{List, [], ◌∷◌, Memᴰ}
 use Prim.Native.Nat.{ℕ, ◌≤◌, ◌<◌}
@@ -14,7 +14,7 @@ use lib.Dec.{T}
 use Rattle.atoms.specs.Atoms.{has, Inside, inside}
 use Rattle.atoms.proofs.Truth.{and_l, and_r, both, not_both, not_from, same_yes, true_yes, false_no}
 use Rattle.atoms.proofs.Bits.{inside_le, inside_test, test_inside}
-use Rattle.lpod.specs.Lists.{every, some, below}
+use Rattle.lpod.specs.Lists.{some, below}
 use Rattle.lpod.specs.Rule.{Rule, Program, rules}
 use Rattle.lpod.specs.Satisfied.{all_in, some_in, none_in, body_holds, satisfies, satisfies_all, no_pair}
 use Rattle.lpod.specs.Reduct.{Definite, reduct_row, reduct}

@@ -3,11 +3,11 @@
 -- reduct, and the set itself is closed under the options; so it is their least closed set too. From a split program: its rows are
 -- satisfied, and the reduct's least set is closed under the options, so the set lies inside it. Assumes nothing.
 use mathlib.Core.Path.{◌≡◌, refl, sym, ap, ◌∙◌, subst}
-use mathlib.Core.Bool.{Bool, true, false, ◌&&◌, not, cond}
-use mathlib.Core.Logic.{◌⊎◌, inl, inr, ⊎_elim, ◌↔◌}
+use mathlib.Core.Bool.{Bool, ◌&&◌}
+use mathlib.Core.Logic.{⊎_elim, ◌↔◌}
 use mathlib.Core.List.Memᴰ
 use mathlib.Core.List.{List, [], ◌∷◌, ◌++◌, map, Memᴰ}
-use Prim.Native.Nat.{ℕ, suc, ◌+◌, ◌*◌, ◌<◌}
+use Prim.Native.Nat.{ℕ, suc, ◌*◌, ◌<◌}
 use native.Mathlib.Nat.{suc-mul}
 use native.Mathlib.Omega.{arith}
 use lib.Dec.{T, eqb, eqb→eq, eqb_refl}
@@ -25,7 +25,7 @@ use Rattle.lpod.specs.Split.{Option, options_from, options_of, options, choices,
 use Rattle.lpod.proofs.Lists.{in_keep, keep_in, in_gather, gather_in, in_map, map_in, one_of, of_one}
 use Rattle.lpod.proofs.LeastClosed.{all_mono, least_closed, least_inside, is_least}
 use Rattle.lpod.proofs.AnswerParts.{answer_says}
-use Rattle.lpod.proofs.RowOptions.{Fit, row_fit, row_own}
+use Rattle.lpod.proofs.RowOptions.{row_fit, row_own}
 use Rattle.lpod.proofs.ReductIsHereThere.{self_closed}
 
 -- ---- the list of choices holds every choice of one option for each row, and nothing else

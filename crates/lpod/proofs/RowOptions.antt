@@ -3,13 +3,13 @@
 -- row's own rule of the reduct; such an option satisfies its row. By induction on the head. Assumes nothing.
 use mathlib.Core.Path.{◌≡◌, refl, sym, ap, ◌∙◌, subst}
 use mathlib.Core.Bool.{Bool, true, false, ◌||◌, not, cond}
-use mathlib.Core.Logic.{◌⊎◌, inl, inr, ⊎_elim}
+use mathlib.Core.Logic.{⊎_elim}
 use mathlib.Core.List.Memᴰ
 use mathlib.Core.List.{List, [], ◌∷◌, ◌++◌, append_assoc, Memᴰ}
 use Prim.Native.Nat.{ℕ}
 use lib.Dec.{T}
 use Rattle.atoms.specs.Atoms.{has}
-use Rattle.atoms.proofs.Truth.{and_l, and_r, both, imp, imp_at, or_l, or_r, or_cases, true_yes, false_no, no_false, yes_true}
+use Rattle.atoms.proofs.Truth.{and_l, and_r, both, imp, imp_at, or_l, or_cases, true_yes, false_no, no_false, yes_true}
 use Rattle.lpod.specs.Lists.{some}
 use Rattle.lpod.specs.Rule.{Rule}
 use Rattle.lpod.specs.Satisfied.{all_in, some_in, none_in, body_holds, satisfies}

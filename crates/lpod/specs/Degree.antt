@@ -1,5 +1,5 @@
 -- How well a set satisfies a row. 000 Definition 5; 001, end of section 2.2
-use Rattle.std.specs.Prelude.{Bool, cond, List, [], ◌∷◌, map, ℕ, suc}
+use Rattle.std.specs.Prelude.{cond, List, [], ◌∷◌, map, ℕ, suc}
 use Rattle.atoms.specs.Atoms.{has}
 use Rattle.lpod.specs.Rule.{Rule, Program}
 use Rattle.lpod.specs.Satisfied.{body_holds}

@@ -1,5 +1,5 @@
 -- The reading in the logic of here-and-there, for H inside T. 001 Definition 1 and operator (13)
-use Rattle.std.specs.Prelude.{Bool, true, false, ◌&&◌, ◌||◌, not, cond, List, [], ◌∷◌, ℕ}
+use Rattle.std.specs.Prelude.{Bool, false, ◌&&◌, ◌||◌, not, cond, List, [], ◌∷◌, ℕ}
 use Rattle.atoms.specs.Atoms.{has, inside}
 use Rattle.lpod.specs.Lists.{every, below}
 use Rattle.lpod.specs.Rule.{Rule, Program, rules}

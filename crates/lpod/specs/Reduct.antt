@@ -1,5 +1,5 @@
 -- The reduct after Brewka. 000 Definition 3; 001 Definition 2
-use Rattle.std.specs.Prelude.{Bool, ◌&&◌, cond, List, [], ◌∷◌, ◌++◌, ℕ}
+use Rattle.std.specs.Prelude.{◌&&◌, cond, List, [], ◌∷◌, ◌++◌, ℕ}
 use Rattle.atoms.specs.Atoms.{has}
 use Rattle.lpod.specs.Lists.{gather}
 use Rattle.lpod.specs.Rule.{Rule}

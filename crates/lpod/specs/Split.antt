@@ -1,5 +1,5 @@
 -- Split programs, and how many of them have a set as answer set. 001 sections 2.1 and 2.2
-use Rattle.std.specs.Prelude.{Bool, true, false, ◌&&◌, not, cond, List, [], ◌∷◌, ◌++◌, map, ℕ, zero, suc, ◌*◌, eqb, length}
+use Rattle.std.specs.Prelude.{Bool, true, ◌&&◌, not, cond, List, [], ◌∷◌, ◌++◌, map, ℕ, ◌*◌, eqb, length}
 use Rattle.lpod.specs.Lists.{every, keep, gather}
 use Rattle.lpod.specs.Rule.{Rule, Program, rules}
 use Rattle.lpod.specs.Satisfied.{all_in, none_in, no_pair}

@@ -1,11 +1,10 @@
 -- An answer set by four tests in order: no pair, page rows, raised flags, support. To satisfy the rows of the raised atoms is to hold them.
 -- Assumes nothing.
-use mathlib.Core.Path.{◌≡◌, refl, sym, ap, ◌∙◌, subst}
+use mathlib.Core.Path.{◌≡◌, sym, ap, ◌∙◌, subst}
 use mathlib.Core.Bool.{Bool, true, false, ◌&&◌}
-use mathlib.Core.List.{List, Memᴰ}
 use Prim.Native.Nat.{ℕ, ◌^◌, ◌<◌}
 use lib.Dec.{T, eqb}
-use Rattle.atoms.specs.Atoms.{has, inside, Inside}
+use Rattle.atoms.specs.Atoms.{has, inside}
 use Rattle.atoms.proofs.Truth.{same_yes}
 use Rattle.atoms.proofs.Bits.{inside_test, test_inside}
 use Rattle.lpod.specs.Lists.{every}

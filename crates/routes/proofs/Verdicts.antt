@@ -1,7 +1,7 @@
 -- A test's answer from the number found and the answer made: refused, or given. And the roads agree: for every page, flag word and set the
 -- reduct test and the here-and-there test answer the same. Assumes nothing.
-use mathlib.Core.Path.{◌≡◌, refl, sym, ap, ◌∙◌}
-use mathlib.Core.Bool.{Bool, true, false}
+use mathlib.Core.Path.{◌≡◌, ap}
+use mathlib.Core.Bool.{Bool, false}
 use mathlib.Core.List.{List}
 use Prim.Native.Nat.{ℕ}
 use borrow.Author.Tests.{ne_eqb}

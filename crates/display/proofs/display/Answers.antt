@@ -1,6 +1,5 @@
 -- `display::display` asks one refusal after the other and then shows. Assumes nothing.
 use Rattle.display.proofs.Turns.{by_pick, by_outcome, by_reading}
-use borrow.Author.Rules.{rules}
 use Rattle.display.proofs.display.Goals as goal
 
 pub returns-then-picked-ne0 : goal.returns-then-picked-ne0

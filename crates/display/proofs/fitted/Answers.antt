@@ -1,7 +1,6 @@
 -- `display::fitted`: shown where it is fit, else 15. Assumes nothing.
 use Rattle.page.specs.Refusals.{first_that}
 use Rattle.display.specs.Shows.{fit_no, unfit, displayed}
-use borrow.Author.Rules.{rules}
 use Rattle.display.proofs.fitted.Goals as goal
 
 pub returns-then-is_fit : goal.returns-then-is_fit

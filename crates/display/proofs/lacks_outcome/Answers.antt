@@ -1,7 +1,6 @@
 -- `display::lacks_outcome`: as many bits in the common part with the four as the set has outcomes. Assumes nothing.
 use Rattle.display.specs.Shows.{one_chosen, lacks_outcome}
 use Rattle.display.proofs.OneOutcome.{how_many_chosen}
-use borrow.Author.Rules.{rules}
 use Rattle.display.proofs.lacks_outcome.Goals as goal
 
 pub returns : goal.returns

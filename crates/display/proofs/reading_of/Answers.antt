@@ -1,6 +1,5 @@
 -- `display::reading_of`, case by case. Assumes nothing.
 use Rattle.display.specs.Shows.{reading_of, reading_or}
-use borrow.Author.Rules.{rules}
 use Rattle.display.proofs.reading_of.Goals as goal
 
 pub returns-in-Live : goal.returns-in-Live

@@ -2,7 +2,6 @@
 use mathlib.Core.Path.{◌∙◌}
 use Rattle.display.specs.Shows.{shown_of}
 use Rattle.display.proofs.OneOutcome.{lowest_chosen}
-use borrow.Author.Rules.{rules}
 use Rattle.display.proofs.shown_of.Goals as goal
 
 pub returns : goal.returns

@@ -2,8 +2,7 @@
 use mathlib.Core.Path.{sym}
 use Prim.Native.Nat.{◌/◌}
 use native.Mathlib.Omega.{arith}
-use borrow.Author.Rules.{rules}
-use Rattle.page.proofs.Accepted.{InRanges, counts_in}
+use Rattle.page.proofs.Accepted.{counts_in}
 use Rattle.writer.specs.Content.{header_fields}
 use Rattle.writer.proofs.Bytes.{low_byte, high_byte, fields_most}
 use Rattle.writer.proofs.header_byte.Goals as goal

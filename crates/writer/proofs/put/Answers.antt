@@ -1,9 +1,7 @@
 -- `put` stores a part byte after byte. Assumes nothing.
 use mathlib.Core.Path.{refl}
-use Prim.Native.Nat.{◌-◌, ◌≤◌}
 use native.Mathlib.Omega.{arith}
-use lib.ListN.{length}
-use Rattle.writer.proofs.Bytes.{Stored, stored_none, stored_more, stored_all}
+use Rattle.writer.proofs.Bytes.{stored_none, stored_more, stored_all}
 use Rattle.writer.proofs.put.Goals as goal
 
 pub loop-i-init : goal.loop-i-init

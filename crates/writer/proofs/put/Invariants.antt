@@ -1,9 +1,7 @@
 -- `put` stores a part byte after byte. Assumes nothing.
-use mathlib.Core.Path.{refl}
 use Prim.Native.Nat.{◌-◌, ◌≤◌}
-use native.Mathlib.Omega.{arith}
 use lib.ListN.{length}
-use Rattle.writer.proofs.Bytes.{Stored, stored_none, stored_more, stored_all}
+use Rattle.writer.proofs.Bytes.{Stored}
 use Rattle.writer.proofs.put.Given as goal
 
 abbrev pub invariant-loop-i : goal.invariant-loop-i

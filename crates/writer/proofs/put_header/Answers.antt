@@ -1,11 +1,10 @@
 -- `put_header` stores the header byte after byte. Assumes nothing.
 use mathlib.Core.Path.{sym, ap}
-use Prim.Native.Nat.{ℕ, ◌-◌, ◌≤◌}
+use Prim.Native.Nat.{ℕ}
 use native.Mathlib.Nat.{zero-add}
 use native.Mathlib.Omega.{arith}
 use lib.ListN.{set}
-use Rattle.writer.specs.Content.{header_fields, two_bytes}
-use Rattle.writer.proofs.Bytes.{length_fields, Stored, stored_none, stored_more, stored_all}
+use Rattle.writer.proofs.Bytes.{length_fields, stored_none, stored_more, stored_all}
 use Rattle.writer.proofs.put_header.Goals as goal
 
 pub loop-i-init : goal.loop-i-init

@@ -1,11 +1,7 @@
 -- `put_header` stores the header byte after byte. Assumes nothing.
-use mathlib.Core.Path.{sym, ap}
-use Prim.Native.Nat.{ℕ, ◌-◌, ◌≤◌}
-use native.Mathlib.Nat.{zero-add}
-use native.Mathlib.Omega.{arith}
-use lib.ListN.{set}
+use Prim.Native.Nat.{◌-◌, ◌≤◌}
 use Rattle.writer.specs.Content.{header_fields, two_bytes}
-use Rattle.writer.proofs.Bytes.{length_fields, Stored, stored_none, stored_more, stored_all}
+use Rattle.writer.proofs.Bytes.{Stored}
 use Rattle.writer.proofs.put_header.Given as goal
 
 abbrev pub invariant-loop-i : goal.invariant-loop-i

@@ -1,9 +1,7 @@
 -- `put_rows` stores the rows byte after byte. Assumes nothing.
 use mathlib.Core.Path.{refl}
-use Prim.Native.Nat.{◌-◌, ◌≤◌}
 use native.Mathlib.Omega.{arith}
-use Rattle.writer.specs.Content.{four_bytes}
-use Rattle.writer.proofs.Bytes.{length_rows, Stored, stored_none, stored_more, stored_all}
+use Rattle.writer.proofs.Bytes.{length_rows, stored_none, stored_more, stored_all}
 use Rattle.writer.proofs.put_rows.Goals as goal
 
 pub loop-i-init : goal.loop-i-init

@@ -1,9 +1,7 @@
 -- `put_rows` stores the rows byte after byte. Assumes nothing.
-use mathlib.Core.Path.{refl}
 use Prim.Native.Nat.{◌-◌, ◌≤◌}
-use native.Mathlib.Omega.{arith}
 use Rattle.writer.specs.Content.{four_bytes}
-use Rattle.writer.proofs.Bytes.{length_rows, Stored, stored_none, stored_more, stored_all}
+use Rattle.writer.proofs.Bytes.{Stored}
 use Rattle.writer.proofs.put_rows.Given as goal
 
 abbrev pub invariant-loop-i : goal.invariant-loop-i

@@ -1,6 +1,5 @@
 -- `row_byte` takes the count at its place, and a zero after the third. Assumes nothing.
 use mathlib.Core.Path.{sym, ◌∙◌}
-use borrow.Author.Rules.{rules}
 use Rattle.writer.proofs.Bytes.{count_byte, zero_byte}
 use Rattle.writer.proofs.row_byte.Goals as goal
 

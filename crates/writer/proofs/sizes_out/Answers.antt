@@ -1,5 +1,4 @@
 -- `sizes_out` looks for whole rows and whole pairs, and at the four numbers. Assumes nothing.
-use borrow.Author.Rules.{rules}
 use Rattle.writer.specs.Writes.{ragged, sizes_out}
 use Rattle.writer.proofs.sizes_out.Goals as goal
 

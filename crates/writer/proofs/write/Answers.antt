@@ -1,13 +1,12 @@
 -- `write` goes one of four ways: 3 for the sizes, the number of the page that it makes, 11, or the page. Assumes nothing.
-use Rattle.std.proofs.Common.{◌≡◌, sym, ap, ◌∙◌, false, ◌≤◌, length, take, replicate, ℕ, List, arith}
+use Rattle.std.proofs.Common.{◌≡◌, sym, ap, ◌∙◌, ◌≤◌, length, take, replicate, ℕ, List, arith}
 use lib.Seq.{sets, length-take-le}
 use Rattle.std.proofs.lemmas.List.{length-replicate}
 use Rattle.page.specs.Refusals.{page_no}
 use Rattle.page.proofs.Refusals.{first_here}
-use Rattle.lanes.specs.Entries.{over}
 use Rattle.lanes.proofs.Stored.{over_sets}
-use Rattle.writer.specs.Content.{Content, content, encode}
-use Rattle.writer.specs.Writes.{sizes_out, content_refusals, content_no}
+use Rattle.writer.specs.Content.{content, encode}
+use Rattle.writer.specs.Writes.{content_refusals, content_no}
 use Rattle.writer.proofs.Encoding.{same_number}
 use Rattle.writer.proofs.Ways.{write_refused, write_short, write_made, made_room, made_lent}
 use Rattle.writer.proofs.write.Goals as goal

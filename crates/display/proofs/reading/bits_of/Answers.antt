@@ -2,7 +2,6 @@
 use mathlib.Core.Path.{sym, ap}
 use lib.Ieee.{to_bits, binary32}
 use Rattle.display.proofs.Finite.{equal_itself, not_itself}
-use borrow.Author.Rules.{rules}
 use Rattle.display.proofs.reading.bits_of.Goals as goal
 
 pub float_to_bits-result : goal.float_to_bits-result

@@ -2,7 +2,6 @@
 use mathlib.Core.Path.{◌∙◌}
 use native.Mathlib.Omega.{arith}
 use Rattle.display.proofs.Finite.{no_nan_pattern, nan_pattern}
-use borrow.Author.Rules.{rules}
 use Rattle.display.proofs.reading.of_bits.Goals as goal
 
 pub float_from_bits-result : goal.float_from_bits-result

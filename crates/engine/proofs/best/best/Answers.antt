@@ -1,6 +1,5 @@
 -- `best::best` lists the best sets. Assumes nothing.
 use Rattle.engine.specs.Calls.{sets_of}
-use borrow.Author.Rules.{rules}
 use Rattle.engine.proofs.best.best.Goals as goal
 
 pub returns : goal.returns

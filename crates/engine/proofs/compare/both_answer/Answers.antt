@@ -1,5 +1,4 @@
 -- `compare::both_answer` tests one set and then the other. Assumes nothing.
-use borrow.Author.Rules.{rules}
 use Rattle.engine.proofs.compare.both_answer.Goals as goal
 
 pub returns-then-is_answer : goal.returns-then-is_answer

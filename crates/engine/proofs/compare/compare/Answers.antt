@@ -4,9 +4,7 @@ use mathlib.Core.Path.{refl, ap, ◌∙◌}
 use mathlib.Core.Bool.{Bool, ◌&&◌}
 use Prim.Native.Nat.{ℕ}
 use native.Mathlib.Omega.{arith}
-use borrow.Author.Rules.{rules}
-use borrow.Author.Tests.{not-true, not-false}
-use Rattle.words.proofs.Lent.{words_many, lent_answer, lent_preferred}
+use Rattle.words.proofs.Lent.{lent_answer, lent_preferred}
 use Rattle.engine.proofs.Comparing.{sets_page, compare_early, compare_no_answer, compare_none, compare_refused, compare_given, compare_by, side_read}
 use Rattle.engine.proofs.compare.compare.Goals as goal
 

@@ -1,7 +1,6 @@
 -- `compare::sets_no` tests the first set with the page and the flag word, then the second. Assumes nothing.
 use mathlib.Core.Path.{ap, ◌∙◌, sym}
 use mathlib.Core.Bool.{Bool, cond}
-use borrow.Author.Rules.{rules}
 use Rattle.engine.proofs.Comparing.{sets_tested, sets_out}
 use Rattle.engine.proofs.compare.sets_no.Goals as goal
 

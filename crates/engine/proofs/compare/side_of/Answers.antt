@@ -1,5 +1,4 @@
 -- `compare::side_of` asks both ways round. Assumes nothing.
-use borrow.Author.Rules.{rules}
 use Rattle.lpod.specs.Preferred.{compare}
 use Rattle.engine.proofs.compare.side_of.Goals as goal
 

@@ -1,7 +1,5 @@
 -- `degrees::last_no` tests one condition after the other, in the order of the refusals. Assumes nothing.
 use lib.ListN.{length}
-use borrow.Author.Rules.{rules}
-use borrow.Author.Tests.{not-true, not-false}
 use Rattle.lpod.specs.Answer.{answer}
 use Rattle.words.specs.Coded.{program_in}
 use Rattle.engine.proofs.Grading.{last_short, last_no_answer, last_none}

@@ -1,16 +1,12 @@
 -- `degrees::store` goes through the rows. What is kept: storing all degrees from the start of the slice as it was comes to storing those of the rows
 -- that are left into the slice as it is. Assumes nothing.
-use mathlib.Core.Path.{◌≡◌, refl, sym, ◌∙◌}
+use mathlib.Core.Path.{◌≡◌}
 use mathlib.Core.List.{map}
 use Prim.Native.Nat.{◌-◌, ◌≤◌}
-use native.Mathlib.Omega.{arith}
-use lib.ListN.{length, drop, length-set}
+use lib.ListN.{length, drop}
 use lib.Seq.{sets}
 use Rattle.lpod.specs.Degree.{degree}
 use Rattle.words.specs.Coded.{rule_in, rules_in}
-use Rattle.words.proofs.Rest.{rest_step, rest_none}
-use Rattle.lanes.proofs.Stored.{over_sets}
-use Rattle.engine.proofs.Stored.{sets_go, sets_end, degrees_length}
 use Rattle.engine.proofs.degrees.store.Given as goal
 
 abbrev pub invariant-loop-n : goal.invariant-loop-n

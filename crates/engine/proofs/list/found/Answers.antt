@@ -1,8 +1,6 @@
 -- `list::found`: on an accepted page the words mean its program. Assumes nothing.
-use Rattle.words.proofs.Lent.{words_many}
 use Rattle.lanes.proofs.Listed.{found_same}
 use Rattle.engine.proofs.AnswerSets.{made_sets}
-use borrow.Author.Rules.{rules}
 use Rattle.engine.proofs.list.found.Goals as goal
 
 pub returns : goal.returns

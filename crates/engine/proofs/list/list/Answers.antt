@@ -1,6 +1,5 @@
 -- `list::list` lists all answer sets. Assumes nothing.
 use Rattle.engine.specs.Calls.{sets_of}
-use borrow.Author.Rules.{rules}
 use Rattle.engine.proofs.list.list.Goals as goal
 
 pub returns : goal.returns

@@ -3,7 +3,6 @@ use mathlib.Core.Path.{sym, ◌∙◌}
 use Rattle.page.specs.Program.{program}
 use Rattle.engine.specs.Calls.{sets_of}
 use Rattle.engine.proofs.SetsStored.{says_refused, says_short, says_stored}
-use borrow.Author.Rules.{rules}
 use Rattle.engine.proofs.list.sets.Goals as goal
 
 pub returns-then-no-ne0 : goal.returns-then-no-ne0

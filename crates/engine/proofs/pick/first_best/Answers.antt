@@ -1,9 +1,7 @@
 -- `pick::first_best`: on an accepted page the words mean its program. Assumes nothing.
 use mathlib.Core.Path.{ap, ◌∙◌}
-use Rattle.words.proofs.Lent.{words_many}
 use Rattle.lanes.specs.Sets.{number_of}
 use Rattle.engine.proofs.AnswerSets.{made_pick}
-use borrow.Author.Rules.{rules}
 use Rattle.engine.proofs.pick.first_best.Goals as goal
 
 pub returns : goal.returns

@@ -1,7 +1,6 @@
 -- `pick::pick` refuses by the first refusal; else it gives the least best set that is found, or 10 where none is. Assumes nothing.
 use mathlib.Core.Path.{sym, ◌∙◌}
 use Rattle.engine.proofs.Picks.{pick_refused, pick_none, pick_found}
-use borrow.Author.Rules.{rules}
 use Rattle.engine.proofs.pick.pick.Goals as goal
 
 pub returns-then-no-ne0 : goal.returns-then-no-ne0

@@ -1,6 +1,5 @@
 -- `rank::preferred` takes the rows of the raised atoms first and then those of the words; what is found at the end decides. Assumes nothing.
 use mathlib.Core.Path.{◌∙◌, ap}
-use borrow.Author.Rules.{rules}
 use mathlib.Core.List.{[]}
 use Rattle.words.specs.Coded.{program_in, rules_in}
 use Rattle.engine.specs.Rank.{rows_seen}

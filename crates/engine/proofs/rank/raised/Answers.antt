@@ -1,5 +1,4 @@
 -- `rank::raised` asks both ways round whether the raised atoms of one set are in the other. Assumes nothing.
-use borrow.Author.Rules.{rules}
 use Rattle.engine.specs.Rank.{raised_seen}
 use Rattle.engine.proofs.rank.raised.Goals as goal
 

@@ -1,14 +1,11 @@
 -- `rank::rows_seen` goes through the rows. What is kept: what all rows make of what was found before is what those from the row in hand on make of
 -- what is found so far. Assumes nothing.
-use mathlib.Core.Path.{◌≡◌, refl, sym, ◌∙◌}
+use mathlib.Core.Path.{◌≡◌}
 use mathlib.Core.List.{map}
 use Prim.Native.Nat.{◌-◌, ◌≤◌}
-use native.Mathlib.Omega.{arith}
 use lib.ListN.{length, drop}
 use Rattle.words.specs.Coded.{rule_in, rules_in}
-use Rattle.words.proofs.Rest.{rest_step, rest_none}
 use Rattle.engine.specs.Rank.{rows_seen}
-use Rattle.engine.proofs.LeastKept.{rows_go, rows_end}
 use Rattle.engine.proofs.rank.rows_seen.Given as goal
 
 abbrev pub invariant-loop-at : goal.invariant-loop-at

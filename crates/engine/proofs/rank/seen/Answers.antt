@@ -1,5 +1,4 @@
 -- `rank::seen` leaves a row with one degree in both sets, and notes both degrees of any other. Assumes nothing.
-use borrow.Author.Rules.{rules}
 use borrow.Author.Tests.{eq-eqb, ne_eqb}
 use Rattle.engine.specs.Rank.{seen}
 use Rattle.engine.proofs.rank.seen.Goals as goal

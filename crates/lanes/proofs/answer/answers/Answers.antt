@@ -6,7 +6,6 @@ use Rattle.atoms.specs.Atoms.{has}
 use Rattle.atoms.proofs.Truth.{and_l}
 use Rattle.atoms.proofs.Bits.{has_zero}
 use Rattle.lanes.proofs.Answering.{answer_none, answer_lane}
-use borrow.Author.Rules.{rules}
 use Rattle.lanes.proofs.answer.answers.Goals as goal
 
 pub to_block-requires : goal.to_block-requires

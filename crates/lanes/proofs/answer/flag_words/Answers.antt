@@ -1,6 +1,5 @@
 -- `answer::flag_words`: the words of the flags raised over none. Assumes nothing.
 use Rattle.lanes.proofs.Words.{same_made}
-use borrow.Author.Rules.{rules}
 use Rattle.lanes.proofs.answer.flag_words.Goals as goal
 
 pub returns : goal.returns

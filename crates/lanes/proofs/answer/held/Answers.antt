@@ -5,7 +5,6 @@ use native.Mathlib.Omega.{arith}
 use lib.ListN.{get_or-eq_default}
 use Rattle.atoms.specs.Atoms.{has}
 use Rattle.lanes.proofs.Words.{has_column}
-use borrow.Author.Rules.{rules}
 use Rattle.lanes.proofs.answer.held.Goals as goal
 
 pub returns-then-a-lt16 : goal.returns-then-a-lt16

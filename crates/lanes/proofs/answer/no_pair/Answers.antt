@@ -1,12 +1,6 @@
 -- `answer::no_pair` takes one pair after the other. Assumes nothing.
-use Prim.Native.Nat.{ℕ, ◌-◌, ◌≤◌, ◌<◌}
-use mathlib.Core.Path.{◌≡◌, refl, sym, ◌∙◌}
-use mathlib.Core.Bool.{◌&&◌}
-use mathlib.Core.List.{map}
+use mathlib.Core.Path.{refl, sym, ◌∙◌}
 use native.Mathlib.Omega.{arith}
-use lib.ListN.{length, drop}
-use Rattle.atoms.specs.Atoms.{has}
-use Rattle.lpod.specs.Satisfied.{no_pair}
 use Rattle.words.specs.Coded.{pair_in, pairs_in}
 use Rattle.words.proofs.Rest.{rest_step, rest_none}
 use Rattle.lanes.specs.Lanes.{column}

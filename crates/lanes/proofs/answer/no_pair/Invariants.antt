@@ -1,16 +1,13 @@
 -- `answer::no_pair` takes one pair after the other. Assumes nothing.
 use Prim.Native.Nat.{ℕ, ◌-◌, ◌≤◌, ◌<◌}
-use mathlib.Core.Path.{◌≡◌, refl, sym, ◌∙◌}
+use mathlib.Core.Path.{◌≡◌}
 use mathlib.Core.Bool.{◌&&◌}
 use mathlib.Core.List.{map}
-use native.Mathlib.Omega.{arith}
 use lib.ListN.{length, drop}
 use Rattle.atoms.specs.Atoms.{has}
 use Rattle.lpod.specs.Satisfied.{no_pair}
 use Rattle.words.specs.Coded.{pair_in, pairs_in}
-use Rattle.words.proofs.Rest.{rest_step, rest_none}
 use Rattle.lanes.specs.Lanes.{column}
-use Rattle.lanes.proofs.Answering.{pair_turn, pair_end}
 use Rattle.lanes.proofs.answer.no_pair.Given as goal
 
 abbrev pub invariant-loop-n : goal.invariant-loop-n

@@ -2,7 +2,6 @@
 use mathlib.Core.Path.{◌∙◌}
 use Rattle.atoms.proofs.Bits.{has_and}
 use Rattle.words.specs.Coded.{pair_in}
-use borrow.Author.Rules.{rules}
 use Rattle.lanes.proofs.answer.pair_held.Goals as goal
 
 pub returns : goal.returns

@@ -1,9 +1,7 @@
 -- `answer::same` goes through both word by word. Assumes nothing.
-use Prim.Native.Nat.{ℕ, ◌-◌, ◌≤◌, ◌<◌}
-use mathlib.Core.Path.{◌≡◌, sym, ap, ◌∙◌}
+use mathlib.Core.Path.{sym, ap, ◌∙◌}
 use mathlib.Core.Bool.{Bool, ◌&&◌}
 use native.Mathlib.Omega.{arith}
-use Rattle.atoms.specs.Atoms.{has}
 use Rattle.lanes.proofs.Words.{has_full}
 use Rattle.lanes.proofs.Columns.{same_from, same_turn, same_end}
 use Rattle.lanes.proofs.answer.same.Goals as goal

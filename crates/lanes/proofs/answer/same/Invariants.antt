@@ -1,11 +1,9 @@
 -- `answer::same` goes through both word by word. Assumes nothing.
 use Prim.Native.Nat.{ℕ, ◌-◌, ◌≤◌, ◌<◌}
-use mathlib.Core.Path.{◌≡◌, sym, ap, ◌∙◌}
-use mathlib.Core.Bool.{Bool, ◌&&◌}
-use native.Mathlib.Omega.{arith}
+use mathlib.Core.Path.{◌≡◌}
+use mathlib.Core.Bool.{◌&&◌}
 use Rattle.atoms.specs.Atoms.{has}
-use Rattle.lanes.proofs.Words.{has_full}
-use Rattle.lanes.proofs.Columns.{same_from, same_turn, same_end}
+use Rattle.lanes.proofs.Columns.{same_from}
 use Rattle.lanes.proofs.answer.same.Given as goal
 
 abbrev pub invariant-loop-k : goal.invariant-loop-k

@@ -1,16 +1,14 @@
 -- `answer::supported`: the passes in each lane, until each is settled. Assumes nothing.
-use Prim.Native.Nat.{ℕ, ◌+◌, ◌-◌, ◌*◌, ◌≤◌, ◌<◌}
-use mathlib.Core.Path.{◌≡◌, refl, sym, ap, ◌∙◌, subst}
+use Prim.Native.Nat.{ℕ, ◌+◌, ◌-◌, ◌*◌}
+use mathlib.Core.Path.{refl, sym, ap, ◌∙◌, subst}
 use native.Mathlib.Omega.{arith}
 use lib.Bits.{bit_and}
-use lib.Dec.{T}
-use lib.ListN.{length}
 use Rattle.atoms.specs.Atoms.{has}
 use Rattle.atoms.proofs.Bits.{has_zero, test_inside}
 use Rattle.words.specs.Coded.{rules_in, rules_with}
 use Rattle.lanes.specs.Lanes.{column}
 use Rattle.lanes.proofs.Closure.{Come, come_start, come_later}
-use Rattle.lanes.proofs.Answering.{Kept, kept_start, kept_turn, kept_later, kept_end, right_none, stop, stop_end}
+use Rattle.lanes.proofs.Answering.{kept_start, kept_turn, kept_later, kept_end, right_none, stop, stop_end}
 use Rattle.lanes.proofs.answer.supported.Goals as goal
 
 pub loop-left-init : goal.loop-left-init

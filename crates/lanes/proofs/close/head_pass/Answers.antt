@@ -1,16 +1,13 @@
 -- `close::head_pass` takes the head's digits one after the other. Assumes nothing.
-use Prim.Native.Nat.{ℕ, ◌-◌, ◌%◌, ◌≤◌, ◌<◌}
-use mathlib.Core.Path.{◌≡◌, sym, ap, ◌∙◌}
-use mathlib.Core.Bool.{◌&&◌, ◌||◌}
+use Prim.Native.Nat.{ℕ, ◌-◌, ◌%◌, ◌≤◌}
+use mathlib.Core.Path.{sym, ap, ◌∙◌}
+use mathlib.Core.Bool.{◌&&◌}
 use mathlib.Core.List.{List}
 use native.Mathlib.Omega.{arith}
-use borrow.Author.Rules.{rules}
 use lib.Bits.{bit_and}
-use lib.ListN.{length}
 use Rattle.atoms.specs.Atoms.{has}
 use Rattle.atoms.proofs.Bits.{has_zero}
 use Rattle.lpod.specs.Satisfied.{none_in}
-use Rattle.words.specs.Coded.{rule_in, digits}
 use Rattle.words.proofs.Places.{digits_step, digits_none}
 use Rattle.lanes.specs.Lanes.{column}
 use Rattle.lanes.specs.Pass.{put, adds}

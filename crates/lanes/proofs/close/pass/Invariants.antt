@@ -1,19 +1,14 @@
 -- `close::pass` takes one row after the other. Assumes nothing.
 use Prim.Native.Nat.{ℕ, ◌+◌, ◌-◌, ◌*◌, ◌≤◌, ◌<◌}
-use mathlib.Core.Path.{◌≡◌, refl, sym, ◌∙◌}
+use mathlib.Core.Path.{◌≡◌}
 use mathlib.Core.Bool.{◌&&◌, ◌||◌}
 use mathlib.Core.List.{map}
-use native.Mathlib.Omega.{arith}
 use lib.ListN.{length, drop}
 use Rattle.atoms.specs.Atoms.{has}
-use Rattle.atoms.proofs.Bits.{has_zero}
 use Rattle.lpod.specs.Satisfied.{satisfies_all}
 use Rattle.words.specs.Coded.{rule_in, rules_in}
-use Rattle.words.proofs.Rest.{rest_step, rest_none}
 use Rattle.lanes.specs.Lanes.{column}
 use Rattle.lanes.specs.Pass as goes
-use Rattle.lanes.proofs.Words.{has_full}
-use Rattle.lanes.proofs.Passing.{ok_turn, ok_end, wait_turn, wait_end, pass_turn, pass_end, grow_turn, grow_end}
 use Rattle.lanes.proofs.close.pass.Given as goal
 
 abbrev pub invariant-loop-n : goal.invariant-loop-n

@@ -5,7 +5,6 @@ use Rattle.words.specs.Coded.{rule_in, pos_set}
 use Rattle.lanes.specs.Lanes.{column}
 use Rattle.lanes.proofs.Words.{full}
 use Rattle.lanes.proofs.Passing.{idle_ok, idle_wait, idle_fire, idle_grow, row_ok, row_wait, row_fire, row_grow}
-use borrow.Author.Rules.{rules}
 use Rattle.lanes.proofs.close.row_pass.Goals as goal
 
 pub returns-then-x-eq0 : goal.returns-then-x-eq0

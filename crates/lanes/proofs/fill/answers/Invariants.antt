@@ -1,14 +1,13 @@
 -- `fill::answers` goes from block to block between. What is kept: the sets of the blocks that are done have their marks, and no other set has one.
 -- Assumes nothing.
 use Prim.Native.Nat.{◌-◌, ◌+◌, ◌/◌, ◌≤◌, ◌<◌}
-use mathlib.Core.Path.{◌≡◌, ◌∙◌}
-use native.Mathlib.Omega.{arith}
+use mathlib.Core.Path.{◌≡◌}
 use lib.Dec.{T}
-use lib.ListN.{length, length-set}
+use lib.ListN.{length}
 use Rattle.atoms.specs.Atoms.{inside}
 use Rattle.lpod.specs.Answer.{answer}
 use Rattle.words.specs.Coded.{program_in}
-use Rattle.lanes.proofs.Filled.{FilledTo, filled_none, filled_more, filled_all, inside_high, inside_self, lane_flags, lane_passes}
+use Rattle.lanes.proofs.Filled.{FilledTo}
 use Rattle.lanes.proofs.fill.answers.Given as goal
 
 abbrev pub invariant-loop-b : goal.invariant-loop-b

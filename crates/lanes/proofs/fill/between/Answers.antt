@@ -1,6 +1,5 @@
 -- `fill::between`: the lanes of block 0 are the numbers of the lanes. Assumes nothing.
 use Rattle.lanes.proofs.Filled.{between_made}
-use borrow.Author.Rules.{rules}
 use Rattle.lanes.proofs.fill.between.Goals as goal
 
 pub returns : goal.returns

@@ -1,16 +1,12 @@
 -- `heads::head_atoms` goes through the rows. What is kept: the set so far, with the head atoms of the rows from the one in hand on, is the head atoms
 -- of all. Assumes nothing.
-use mathlib.Core.Path.{◌≡◌, refl, sym, ◌∙◌}
+use mathlib.Core.Path.{◌≡◌}
 use mathlib.Core.List.{map}
 use Prim.Native.Nat.{◌-◌, ◌≤◌}
-use native.Mathlib.Omega.{arith}
 use lib.ListN.{length, drop}
 use Rattle.atoms.specs.Atoms.{union}
 use Rattle.lpod.specs.Rule.{head_atoms}
 use Rattle.words.specs.Coded.{rule_in, rules_in, atoms_of}
-use Rattle.words.proofs.Rest.{rest_step, rest_none}
-use Rattle.words.proofs.Sets.{atoms_first}
-use Rattle.lanes.proofs.HeadAtoms.{heads_step, heads_none}
 use Rattle.lanes.proofs.heads.head_atoms.Given as goal
 
 abbrev pub invariant-loop-n : goal.invariant-loop-n

@@ -1,6 +1,5 @@
 -- `heads::top_of` is the flags with all head atoms, as it is written. Assumes nothing.
 use Rattle.lanes.specs.Tried.{top_of}
-use borrow.Author.Rules.{rules}
 use Rattle.lanes.proofs.heads.top_of.Goals as goal
 
 pub returns : goal.returns

@@ -1,14 +1,10 @@
 -- `heads::with_head` adds one head atom after the other. What is kept: the set so far, with the atoms to come, is s with the whole head.
 -- Assumes nothing.
-use mathlib.Core.Path.{◌≡◌, refl, sym, ◌∙◌}
-use Prim.Native.Nat.{◌+◌, ◌-◌, ◌≤◌}
-use native.Mathlib.Numerals.{add-one}
-use native.Mathlib.Omega.{arith}
-use lib.ListN.{length, drop, drop_of_length-le}
-use lib.Seq.{drop-cons}
+use mathlib.Core.Path.{◌≡◌}
+use Prim.Native.Nat.{◌-◌, ◌≤◌}
+use lib.ListN.{drop}
 use Rattle.atoms.specs.Atoms.{union}
 use Rattle.words.specs.Coded.{rule_in, atoms_of}
-use Rattle.words.proofs.Sets.{atoms_step, atoms_none}
 use Rattle.lanes.proofs.heads.with_head.Given as goal
 
 abbrev pub invariant-loop-k : goal.invariant-loop-k

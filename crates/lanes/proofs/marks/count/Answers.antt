@@ -1,13 +1,10 @@
 -- `marks::count` goes from block to block. What is kept: the sets counted, with those from block b on, are all, and block b lies between low and
 -- high where it is one. Past the last word no set is marked. Assumes nothing.
-use mathlib.Core.Path.{◌≡◌, ap}
-use Prim.Native.Nat.{◌+◌, ◌-◌, ◌*◌, ◌≤◌, ◌<◌}
+use mathlib.Core.Path.{ap}
+use Prim.Native.Nat.{◌<◌}
 use native.Mathlib.Omega.{arith}
 use lib.Count.{ones-le}
-use lib.Dec.{T}
 use lib.ListN.{length, get_or}
-use Rattle.atoms.specs.Atoms.{inside}
-use Rattle.lanes.specs.Seek.{all_from}
 use Rattle.lanes.specs.Marks.{marked}
 use Rattle.atoms.proofs.Bits.{inside_test}
 use Rattle.lanes.proofs.Seek.{all_length}

@@ -1,14 +1,10 @@
 -- `marks::from_block` goes from block to block. What is kept: the least marked set from block b on is the least from block c on, and block c lies
 -- between low and high where it is one. Past the last word no set is marked. Assumes nothing.
-use mathlib.Core.Path.{◌≡◌, refl, sym, ◌∙◌}
-use Prim.Native.Nat.{◌-◌, ◌*◌, ◌≤◌, ◌<◌}
+use mathlib.Core.Path.{refl, sym, ◌∙◌}
+use Prim.Native.Nat.{◌*◌, ◌<◌}
 use native.Mathlib.Omega.{arith}
 use lib.Count.{trailing_le}
-use lib.Dec.{T}
 use lib.ListN.{get_or}
-use Rattle.atoms.specs.Atoms.{inside}
-use Rattle.lanes.specs.Seek.{next_from}
-use Rattle.lanes.specs.Marks.{marked}
 use Rattle.lanes.proofs.Seek.{next_none}
 use Rattle.lanes.proofs.Marked.{word_none, word_first, next_on_block, none_past}
 use Rattle.lanes.proofs.marks.from_block.Goals as goal
@@ -24,7 +20,7 @@ overflow_add-result c =
 pub returns-then-x-ne0 : goal.returns-then-x-ne0
 returns-then-x-ne0 c =
     let h = c.loop-c in
-    sym (h.invariant.2 ∙ word_first c.args.marks.now h.c (c.shared_slice_known-1.given h.c).fits c.if-x-ne0.true (omega arith))
+    sym (h.invariant.2 ∙ word_first c.args.marks.now h.c (c.type_inv.marks h.c).fits c.if-x-ne0.true (omega arith))
 
 pub next_block-c-requires : goal.next_block-c-requires
 next_block-c-requires c =

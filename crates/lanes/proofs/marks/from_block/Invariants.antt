@@ -1,16 +1,11 @@
 -- `marks::from_block` goes from block to block. What is kept: the least marked set from block b on is the least from block c on, and block c lies
 -- between low and high where it is one. Past the last word no set is marked. Assumes nothing.
-use mathlib.Core.Path.{◌≡◌, refl, sym, ◌∙◌}
+use mathlib.Core.Path.{◌≡◌}
 use Prim.Native.Nat.{◌-◌, ◌*◌, ◌≤◌, ◌<◌}
-use native.Mathlib.Omega.{arith}
-use lib.Count.{trailing_le}
 use lib.Dec.{T}
-use lib.ListN.{get_or}
 use Rattle.atoms.specs.Atoms.{inside}
 use Rattle.lanes.specs.Seek.{next_from}
 use Rattle.lanes.specs.Marks.{marked}
-use Rattle.lanes.proofs.Seek.{next_none}
-use Rattle.lanes.proofs.Marked.{word_none, word_first, next_on_block, none_past}
 use Rattle.lanes.proofs.marks.from_block.Given as goal
 
 abbrev pub invariant-loop-c : goal.invariant-loop-c

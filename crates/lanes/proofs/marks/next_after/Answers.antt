@@ -4,7 +4,6 @@ use Prim.Native.Nat.{◌+◌, ◌/◌, ◌%◌, ◌^◌}
 use native.Mathlib.Omega.{arith}
 use lib.Count.{trailing_le}
 use lib.ListN.{get_or}
-use borrow.Author.Rules.{rules}
 use Rattle.lanes.proofs.Marked.{above_none, above_first, next_on_block}
 use Rattle.lanes.proofs.marks.next_after.Goals as goal
 
@@ -16,7 +15,7 @@ overflow_add-result-then-x-ne0 c =
 pub returns-then-x-ne0 : goal.returns-then-x-ne0
 returns-then-x-ne0 c =
     let a = c.args in
-    sym (above_first a.marks.now a.m (c.shared_slice_known-1.given (a.m / 64)).fits c.if-x-ne0.true (omega arith))
+    sym (above_first a.marks.now a.m (c.type_inv.marks (a.m / 64)).fits c.if-x-ne0.true (omega arith))
 
 pub returns : goal.returns
 returns c =

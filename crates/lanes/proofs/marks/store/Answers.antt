@@ -1,12 +1,10 @@
 -- `marks::store` goes from block to block. What is kept: the sets from block b on, stored from k on, leave what all of them do from the start on;
 -- there is room for them; and block b lies between low and high where it is one. Past the last word no set is marked. Assumes nothing.
-use mathlib.Core.Path.{◌≡◌, refl, sym, ap, ◌∙◌}
-use Prim.Native.Nat.{◌+◌, ◌-◌, ◌*◌, ◌≤◌, ◌<◌}
+use mathlib.Core.Path.{refl, sym, ap, ◌∙◌}
+use Prim.Native.Nat.{◌*◌, ◌<◌}
 use native.Mathlib.Omega.{arith}
-use lib.Dec.{T}
 use lib.ListN.{length, length-append}
 use lib.Seq.{sets, length-sets}
-use Rattle.atoms.specs.Atoms.{inside}
 use Rattle.atoms.proofs.Bits.{inside_test}
 use Rattle.lpod.specs.Lists.{keep, numbers}
 use Rattle.lanes.specs.Seek.{all_from}

@@ -1,19 +1,13 @@
 -- `marks::store` goes from block to block. What is kept: the sets from block b on, stored from k on, leave what all of them do from the start on;
 -- there is room for them; and block b lies between low and high where it is one. Past the last word no set is marked. Assumes nothing.
-use mathlib.Core.Path.{◌≡◌, refl, sym, ap, ◌∙◌}
+use mathlib.Core.Path.{◌≡◌}
 use Prim.Native.Nat.{◌+◌, ◌-◌, ◌*◌, ◌≤◌, ◌<◌}
-use native.Mathlib.Omega.{arith}
 use lib.Dec.{T}
-use lib.ListN.{length, length-append}
-use lib.Seq.{sets, length-sets}
+use lib.ListN.{length}
+use lib.Seq.{sets}
 use Rattle.atoms.specs.Atoms.{inside}
-use Rattle.atoms.proofs.Bits.{inside_test}
-use Rattle.lpod.specs.Lists.{keep, numbers}
 use Rattle.lanes.specs.Seek.{all_from}
 use Rattle.lanes.specs.Marks.{marked}
-use Rattle.lanes.proofs.Seek.{all_length}
-use Rattle.lanes.proofs.BlockSets.{block_le, all_low, all_block, all_none}
-use Rattle.lanes.proofs.Stored.{over_sets, part_stored}
 use Rattle.lanes.proofs.marks.store.Given as goal
 
 abbrev pub invariant-loop-b : goal.invariant-loop-b

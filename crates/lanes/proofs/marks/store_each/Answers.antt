@@ -1,12 +1,12 @@
 -- `marks::store_each` goes from bit to bit. Assumes nothing.
 use mathlib.Core.Path.{refl, sym, ap, ◌∙◌}
 use mathlib.Core.List.{List}
-use Prim.Native.Nat.{ℕ, ◌+◌, ◌-◌, ◌*◌, ◌/◌, ◌^◌}
+use Prim.Native.Nat.{ℕ, ◌+◌}
 use native.Mathlib.Omega.{arith}
 use lib.Count.{count_trailing_zeros}
 use lib.ListN.{length}
 use lib.Seq.{sets}
-use Rattle.lanes.proofs.Runs.{ToStore, Run, next_one, runs_word, runs_all, runs_done, run_length, run_stored, run_same, one_stored, one_left}
+use Rattle.lanes.proofs.Runs.{next_one, runs_word, runs_all, runs_done, run_length, run_stored, run_same, one_stored, one_left}
 use Rattle.lanes.proofs.marks.store_each.Goals as goal
 
 pub loop-x-init : goal.loop-x-init

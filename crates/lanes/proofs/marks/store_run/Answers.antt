@@ -1,8 +1,8 @@
 -- `marks::store_run` counts up. What is kept: the numbers from s on, stored from `at` on, leave what all of them do. Assumes nothing.
 use mathlib.Core.Path.{◌≡◌, refl, sym, ap, ◌∙◌}
-use Prim.Native.Nat.{ℕ, ◌+◌, ◌-◌, ◌≤◌}
+use Prim.Native.Nat.{ℕ, ◌+◌, ◌-◌}
 use native.Mathlib.Omega.{arith}
-use lib.ListN.{length, length-set}
+use lib.ListN.{length-set}
 use lib.Seq.{sets}
 use Rattle.lpod.specs.Lists.{numbers}
 use Rattle.lanes.proofs.Stored.{run_more, run_done}

@@ -1,13 +1,11 @@
 -- `marks::store_runs` goes from run to run. Assumes nothing.
 use mathlib.Core.Path.{refl, sym, ap, ◌∙◌}
 use mathlib.Core.List.{List}
-use Prim.Native.Nat.{ℕ, ◌+◌, ◌-◌, ◌*◌, ◌/◌, ◌^◌}
+use Prim.Native.Nat.{ℕ, ◌+◌}
 use native.Mathlib.Omega.{arith}
-use lib.Count.{count_trailing_zeros}
 use lib.ListN.{length}
 use lib.Seq.{sets}
-use Rattle.lanes.proofs.Words.{full}
-use Rattle.lanes.proofs.Runs.{ToStore, Run, next_run, runs_word, runs_all, runs_done, run_length, run_stored, run_same}
+use Rattle.lanes.proofs.Runs.{next_run, runs_word, runs_all, runs_done, run_length, run_stored, run_same}
 use Rattle.lanes.proofs.marks.store_runs.Goals as goal
 
 pub loop-x-init : goal.loop-x-init

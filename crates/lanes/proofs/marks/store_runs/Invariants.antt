@@ -1,16 +1,6 @@
 -- `marks::store_runs` goes from run to run. Assumes nothing.
-use mathlib.Core.Path.{refl, sym, ap, ◌∙◌}
-use mathlib.Core.List.{List}
-use Prim.Native.Nat.{ℕ, ◌+◌, ◌-◌, ◌*◌, ◌/◌, ◌^◌}
-use native.Mathlib.Omega.{arith}
-use lib.Count.{count_trailing_zeros}
-use lib.ListN.{length}
-use lib.Seq.{sets}
-use Rattle.lanes.proofs.Words.{full}
-use Rattle.lanes.proofs.Runs.{ToStore, Run, next_run, runs_word, runs_all, runs_done, run_length, run_stored, run_same}
-use Rattle.lanes.proofs.marks.store_runs.Reads as reads
-use Rattle.lanes.proofs.marks.store_runs.Lts as lts
-use Rattle.lanes.proofs.marks.store_run.Reads as store-run-reads
+use Prim.Native.Nat.{◌+◌, ◌-◌, ◌*◌}
+use Rattle.lanes.proofs.Runs.{ToStore}
 use Rattle.lanes.proofs.marks.store_runs.Given as goal
 
 abbrev pub invariant-loop-x : goal.invariant-loop-x

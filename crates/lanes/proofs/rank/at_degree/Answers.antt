@@ -1,9 +1,6 @@
 -- `rank::at_degree` goes through the rows. What is kept: the two words, with the rows that are left, say what all rows say. Assumes nothing.
-use mathlib.Core.Logic.{⊎_elim}
-use Prim.Native.Nat.{◌-◌, ◌≤◌}
 use native.Mathlib.Omega.{arith}
-use lib.ListN.{length}
-use Rattle.lanes.proofs.Levels.{Leveled, level_start, level_here, level_there, level_end}
+use Rattle.lanes.proofs.Levels.{level_start, level_here, level_there, level_end}
 use Rattle.lanes.proofs.rank.at_degree.Goals as goal
 use Rattle.lanes.proofs.rank.at_degree.Goals.{then-grades-n, else-grades-n}
 
@@ -29,8 +26,8 @@ loop-n-preserved c =
     let g = a.grades.now in (
       omega arith,
       elim c.if-grades-n.branch [
-        then-grades-n w ↦ rw (w.up-is, w.down-is) (level_here r g a.b a.k h.n h.up h.down x.result (omega arith) x.ensures h.invariant.1 w.if-grades-n.true)
-      | else-grades-n w ↦ rw (w.up-is, w.down-is) (level_there r g a.b a.k h.n h.up h.down x.result (omega arith) x.ensures h.invariant.1 w.if-grades-n.false (omega (arith, x.type_inv)))
+        | then-grades-n w ↦ rw (w.up-is, w.down-is) (level_here r g a.b a.k h.n h.up h.down x.result (omega arith) x.ensures h.invariant.1 w.if-grades-n.true)
+        | else-grades-n w ↦ rw (w.up-is, w.down-is) (level_there r g a.b a.k h.n h.up h.down x.result (omega arith) x.ensures h.invariant.1 w.if-grades-n.false (omega (arith, x.type_inv)))
       ],
     )
 

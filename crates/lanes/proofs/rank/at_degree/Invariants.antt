@@ -1,9 +1,7 @@
 -- `rank::at_degree` goes through the rows. What is kept: the two words, with the rows that are left, say what all rows say. Assumes nothing.
-use mathlib.Core.Logic.{⊎_elim}
 use Prim.Native.Nat.{◌-◌, ◌≤◌}
-use native.Mathlib.Omega.{arith}
 use lib.ListN.{length}
-use Rattle.lanes.proofs.Levels.{Leveled, level_start, level_here, level_there, level_end}
+use Rattle.lanes.proofs.Levels.{Leveled}
 use Rattle.lanes.proofs.rank.at_degree.Given as goal
 
 abbrev pub invariant-loop-n : goal.invariant-loop-n

@@ -1,8 +1,7 @@
 -- `rank::compare` goes through the degrees. What is kept: the lanes that won and those that lost at a degree before the one in hand,
 -- and those in which all is equal up to there. Assumes nothing.
 use Prim.Native.Nat.{◌+◌, ◌-◌, ◌≤◌}
-use native.Mathlib.Omega.{arith}
-use Rattle.lanes.proofs.Levels.{ComparedTo, compare_start, compare_turn, compare_stop, compare_end}
+use Rattle.lanes.proofs.Levels.{ComparedTo}
 use Rattle.lanes.proofs.rank.compare.Given as goal
 
 abbrev pub invariant-loop-k : goal.invariant-loop-k

@@ -1,11 +1,7 @@
 -- `rank::deepest` goes through the rows. What is kept: the longest head is the longest so far or one of the rows that are left. Assumes nothing.
 use mathlib.Core.Path.{◌≡◌, refl, sym, ◌∙◌}
-use mathlib.Core.Logic.{⊎_elim}
-use mathlib.Core.List.{map}
-use Prim.Native.Nat.{◌-◌, ◌≤◌, max}
+use Prim.Native.Nat.{max}
 use native.Mathlib.Omega.{arith}
-use lib.ListN.{length, drop}
-use Rattle.lpod.specs.Preferred.{longest}
 use Rattle.words.specs.Coded.{rule_in, rules_in}
 use Rattle.words.proofs.Rest.{rest_step, rest_none}
 use Rattle.lanes.proofs.Levels.{longest_start, longest_turn, longest_end}
@@ -22,7 +18,7 @@ loop-n-preserved c =
     let h = c.loop-n in
     let a = c.args in
     let most : c.if-most-k.most ≡ max h.most k.result =
-        elim c.if-most-k.branch [ then-most-k w ↦ omega arith | else-most-k w ↦ omega arith ] in (
+    elim c.if-most-k.branch [ then-most-k w ↦ omega arith | else-most-k w ↦ omega arith ] in (
       omega arith,
       omega (arith, most, h.invariant.1),
       h.invariant.2 ∙ longest_turn _ _ _ h.most k.result c.if-most-k.most (rest_step rule_in a.rows.now h.n (omega arith) _ refl) k.ensures most,

@@ -1,14 +1,10 @@
 -- `rank::deepest` goes through the rows. What is kept: the longest head is the longest so far or one of the rows that are left. Assumes nothing.
-use mathlib.Core.Path.{◌≡◌, refl, sym, ◌∙◌}
-use mathlib.Core.Logic.{⊎_elim}
+use mathlib.Core.Path.{◌≡◌}
 use mathlib.Core.List.{map}
 use Prim.Native.Nat.{◌-◌, ◌≤◌, max}
-use native.Mathlib.Omega.{arith}
 use lib.ListN.{length, drop}
 use Rattle.lpod.specs.Preferred.{longest}
 use Rattle.words.specs.Coded.{rule_in, rules_in}
-use Rattle.words.proofs.Rest.{rest_step, rest_none}
-use Rattle.lanes.proofs.Levels.{longest_start, longest_turn, longest_end}
 use Rattle.lanes.proofs.rank.deepest.Given as goal
 
 abbrev pub invariant-loop-n : goal.invariant-loop-n

@@ -1,14 +1,12 @@
 -- `rank::exact`: from degree 2 on the head atoms before the last are passed over, one after the other. What is kept: the row has the
 -- degree where the lane is left and the first of the head atoms that are left is at that place. Assumes nothing.
-use mathlib.Core.Path.{◌≡◌, sym, ap, ◌∙◌}
+use mathlib.Core.Path.{sym, ap, ◌∙◌}
 use mathlib.Core.Bool.{Bool, ◌&&◌}
-use Prim.Native.Nat.{ℕ, ◌+◌, ◌*◌, ◌-◌, ◌≤◌, ◌<◌}
+use Prim.Native.Nat.{◌+◌, ◌-◌}
 use native.Mathlib.Omega.{arith}
-use lib.Dec.{eqb}
 use Rattle.atoms.specs.Atoms.{has}
 use Rattle.atoms.proofs.Bits.{has_and}
-use Rattle.lpod.specs.Degree.{place, degree}
-use Rattle.words.specs.Coded.{rule_in, head_digits, digits}
+use Rattle.words.specs.Coded.{head_digits}
 use Rattle.lanes.proofs.Levels.{place_pass, place_meet, one_bare, one_head, later_start, later_past}
 use Rattle.lanes.proofs.rank.exact.Goals as goal
 

@@ -1,7 +1,6 @@
 -- `rank::first_rows` goes through the grades. What is kept: the word has the rows of degree 1 before the one in hand. Assumes nothing.
 use mathlib.Core.Path.{◌≡◌, sym, subst}
-use mathlib.Core.Logic.{⊎_elim}
-use Prim.Native.Nat.{ℕ, ◌+◌, ◌-◌, ◌≤◌}
+use Prim.Native.Nat.{ℕ, ◌+◌}
 use native.Mathlib.Omega.{arith}
 use Rattle.lanes.proofs.FirstRows.{FirstTo, first_none, first_on, first_off}
 use Rattle.lanes.proofs.rank.first_rows.Goals as goal
@@ -28,8 +27,8 @@ loop-i-preserved c =
     let g = c.args.grades.now in (
       omega arith,
       elim c.if-grades-i-eq1.branch [
-        then-grades-i-eq1 w ↦ subst (FirstTo g (h.i + 1)) (sym w.x-is) (first_on g h.i h.x h.invariant.1 (omega (arith, c.requires.0)) w.if-grades-i-eq1.true)
-      | else-grades-i-eq1 w ↦ subst (FirstTo g (h.i + 1)) (sym w.x-is) (first_off g h.i h.x h.invariant.1 w.if-grades-i-eq1.false)
+        | then-grades-i-eq1 w ↦ subst (FirstTo g (h.i + 1)) (sym w.x-is) (first_on g h.i h.x h.invariant.1 (omega (arith, c.requires.0)) w.if-grades-i-eq1.true)
+        | else-grades-i-eq1 w ↦ subst (FirstTo g (h.i + 1)) (sym w.x-is) (first_off g h.i h.x h.invariant.1 w.if-grades-i-eq1.false)
       ],
     )
 

@@ -1,8 +1,7 @@
 -- `rank::firsts` goes through the rows. What is kept: the word has every row before the one in hand in which some lane has degree 1.
 -- Assumes nothing.
 use mathlib.Core.Path.{◌≡◌, ap, ◌∙◌, subst}
-use mathlib.Core.Logic.{⊎_elim}
-use Prim.Native.Nat.{ℕ, ◌-◌, ◌≤◌}
+use Prim.Native.Nat.{ℕ}
 use native.Mathlib.Omega.{arith}
 use lib.Dec.{T}
 use lib.ListN.{length}
@@ -45,8 +44,8 @@ loop-n-preserved c =
     let r = a.rows.now in (
       omega arith,
       elim c.if-e-among-ne0.branch [
-        then-e-among-ne0 w ↦ rw w.x-is (firsts_on r a.b a.among h.n h.x h.invariant.1 (omega (arith, c.requires.3)))
-      | else-e-among-ne0 w ↦ rw w.x-is (firsts_off r a.b a.among h.n h.x h.invariant.1 x.result x.ensures w.if-e-among-ne0.false)
+        | then-e-among-ne0 w ↦ rw w.x-is (firsts_on r a.b a.among h.n h.x h.invariant.1 (omega (arith, c.requires.3)))
+        | else-e-among-ne0 w ↦ rw w.x-is (firsts_off r a.b a.among h.n h.x h.invariant.1 x.result x.ensures w.if-e-among-ne0.false)
       ],
     )
 

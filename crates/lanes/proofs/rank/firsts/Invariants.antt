@@ -1,14 +1,8 @@
 -- `rank::firsts` goes through the rows. What is kept: the word has every row before the one in hand in which some lane has degree 1.
 -- Assumes nothing.
-use mathlib.Core.Path.{◌≡◌, ap, ◌∙◌, subst}
-use mathlib.Core.Logic.{⊎_elim}
-use Prim.Native.Nat.{ℕ, ◌-◌, ◌≤◌}
-use native.Mathlib.Omega.{arith}
-use lib.Dec.{T}
+use Prim.Native.Nat.{◌-◌, ◌≤◌}
 use lib.ListN.{length}
-use Rattle.atoms.specs.Atoms.{has}
-use Rattle.atoms.proofs.Bits.{has_zero}
-use Rattle.lanes.proofs.FirstRows.{FirstsTo, firsts_none, firsts_on, firsts_off}
+use Rattle.lanes.proofs.FirstRows.{FirstsTo}
 use Rattle.lanes.proofs.rank.firsts.Given as goal
 
 abbrev pub invariant-loop-n : goal.invariant-loop-n

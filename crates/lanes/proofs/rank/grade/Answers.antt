@@ -1,9 +1,8 @@
 -- `rank::grade` goes through the rows. What is kept: the degrees stored so far, with those of the rows that are left, are all of them. Assumes nothing.
-use mathlib.Core.Path.{◌≡◌, refl, ap, ◌∙◌}
-use mathlib.Core.List.{map, ◌++◌}
-use Prim.Native.Nat.{◌-◌, ◌≤◌}
+use mathlib.Core.Path.{refl, ap, ◌∙◌}
+use mathlib.Core.List.{map}
 use native.Mathlib.Omega.{arith}
-use lib.ListN.{length, take, drop, length-set}
+use lib.ListN.{length, length-set}
 use Rattle.lpod.specs.Degree.{degree}
 use Rattle.words.specs.Coded.{rule_in, rules_in}
 use Rattle.words.proofs.Filled.{filled_more, filled_all}

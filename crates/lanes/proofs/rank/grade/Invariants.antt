@@ -1,13 +1,10 @@
 -- `rank::grade` goes through the rows. What is kept: the degrees stored so far, with those of the rows that are left, are all of them. Assumes nothing.
-use mathlib.Core.Path.{◌≡◌, refl, ap, ◌∙◌}
+use mathlib.Core.Path.{◌≡◌}
 use mathlib.Core.List.{map, ◌++◌}
 use Prim.Native.Nat.{◌-◌, ◌≤◌}
-use native.Mathlib.Omega.{arith}
-use lib.ListN.{length, take, drop, length-set}
+use lib.ListN.{length, take, drop}
 use Rattle.lpod.specs.Degree.{degree}
 use Rattle.words.specs.Coded.{rule_in, rules_in}
-use Rattle.words.proofs.Filled.{filled_more, filled_all}
-use Rattle.words.proofs.Rest.{rest_step, rest_none}
 use Rattle.lanes.proofs.rank.grade.Given as goal
 
 abbrev pub invariant-loop-n : goal.invariant-loop-n

@@ -1,17 +1,13 @@
 -- `rank::ranking` goes through the rows. What is kept: the rows stored so far, with those that rank among the rows left, are all that rank; and beside
 -- each stands the low part of its body. Assumes nothing.
 use mathlib.Core.Path.{◌≡◌, refl, sym, ap, ◌∙◌, subst}
-use mathlib.Core.Logic.{⊎_elim}
-use mathlib.Core.List.{◌++◌}
-use Prim.Native.Nat.{ℕ, ◌-◌, ◌≤◌, ◌<◌}
+use Prim.Native.Nat.{ℕ, ◌≤◌, ◌<◌}
 use native.Mathlib.Omega.{arith}
-use lib.ListN.{length, get_or, take, drop, length-set}
+use lib.ListN.{length, get_or, length-set}
 use lib.Seq.{get_or-take, length-take-le}
-use Rattle.lpod.specs.Lists.{keep}
 use Rattle.words.specs.Coded.{head_length}
 use Rattle.words.proofs.Filled.{filled_more, filled_all}
 use Rattle.lanes.specs.Lanes.{LowBody}
-use Rattle.lanes.specs.Rank.{ranks}
 use Rattle.lanes.proofs.Bodies.{low_both}
 use Rattle.lanes.proofs.RankedRows.{word_heads, keep_on, keep_off, keep_none}
 use Rattle.lanes.proofs.rank.ranking.Goals as goal
@@ -51,27 +47,27 @@ loop-n-preserved c =
     let room : h.count < 32 = omega (arith, c.requires.0, h.invariant.1) in (
       omega arith,
       elim c.if-head_count-gt1.branch [
-        then-head_count-gt1 w ↦ omega (arith, w.count-is, h.invariant.1)
-      | else-head_count-gt1 w ↦ omega (arith, w.count-is, h.invariant.1)
+        | then-head_count-gt1 w ↦ omega (arith, w.count-is, h.invariant.1)
+        | else-head_count-gt1 w ↦ omega (arith, w.count-is, h.invariant.1)
       ],
       elim c.if-head_count-gt1.branch [
-        then-head_count-gt1 w ↦ ap length w.kept-is ∙ length-set h.kept h.count _ ∙ h.invariant.2
-      | else-head_count-gt1 w ↦ ap length w.kept-is ∙ h.invariant.2
+        | then-head_count-gt1 w ↦ ap length w.kept-is ∙ length-set h.kept h.count _ ∙ h.invariant.2
+        | else-head_count-gt1 w ↦ ap length w.kept-is ∙ h.invariant.2
       ],
       elim c.if-head_count-gt1.branch [
-        then-head_count-gt1 w ↦ ap length w.bodies-is ∙ length-set h.bodies h.count _ ∙ h.invariant.3
-      | else-head_count-gt1 w ↦ ap length w.bodies-is ∙ h.invariant.3
+        | then-head_count-gt1 w ↦ ap length w.bodies-is ∙ length-set h.bodies h.count _ ∙ h.invariant.3
+        | else-head_count-gt1 w ↦ ap length w.bodies-is ∙ h.invariant.3
       ],
       elim c.if-head_count-gt1.branch [
-        then-head_count-gt1 w ↦
-          rw (w.kept-is, w.count-is) (filled_more h.kept _ _ _ h.count _ (omega (arith, room, h.invariant.2)) h.invariant.4 (keep_on rows h.n (omega arith) (omega (arith, w.if-head_count-gt1.true, heads))))
-      | else-head_count-gt1 w ↦
-          rw (w.kept-is, w.count-is, ← keep_off rows h.n (omega arith) (omega (arith, w.if-head_count-gt1.false, heads))) h.invariant.4
+        | then-head_count-gt1 w ↦
+            rw (w.kept-is, w.count-is) (filled_more h.kept _ _ _ h.count _ (omega (arith, room, h.invariant.2)) h.invariant.4 (keep_on rows h.n (omega arith) (omega (arith, w.if-head_count-gt1.true, heads))))
+        | else-head_count-gt1 w ↦
+            rw (w.kept-is, w.count-is, ← keep_off rows h.n (omega arith) (omega (arith, w.if-head_count-gt1.false, heads))) h.invariant.4
       ],
       elim c.if-head_count-gt1.branch [
-        then-head_count-gt1 w ↦
-          rw (w.kept-is, w.bodies-is, w.count-is) (low_both h.kept h.bodies h.count (get_or rows h.n 0) (get_or lows h.n 0) (omega (arith, room, h.invariant.2)) (omega (arith, room, h.invariant.3)) h.invariant.5 (c.requires.1 h.n (omega arith)))
-      | else-head_count-gt1 w ↦ rw (w.kept-is, w.bodies-is, w.count-is) h.invariant.5
+        | then-head_count-gt1 w ↦
+            rw (w.kept-is, w.bodies-is, w.count-is) (low_both h.kept h.bodies h.count (get_or rows h.n 0) (get_or lows h.n 0) (omega (arith, room, h.invariant.2)) (omega (arith, room, h.invariant.3)) h.invariant.5 (c.requires.1 h.n (omega arith)))
+        | else-head_count-gt1 w ↦ rw (w.kept-is, w.bodies-is, w.count-is) h.invariant.5
       ],
     )
 

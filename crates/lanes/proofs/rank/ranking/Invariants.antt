@@ -1,19 +1,12 @@
 -- `rank::ranking` goes through the rows. What is kept: the rows stored so far, with those that rank among the rows left, are all that rank; and beside
 -- each stands the low part of its body. Assumes nothing.
-use mathlib.Core.Path.{◌≡◌, refl, sym, ap, ◌∙◌, subst}
-use mathlib.Core.Logic.{⊎_elim}
+use mathlib.Core.Path.{◌≡◌}
 use mathlib.Core.List.{◌++◌}
 use Prim.Native.Nat.{ℕ, ◌-◌, ◌≤◌, ◌<◌}
-use native.Mathlib.Omega.{arith}
-use lib.ListN.{length, get_or, take, drop, length-set}
-use lib.Seq.{get_or-take, length-take-le}
+use lib.ListN.{length, get_or, take, drop}
 use Rattle.lpod.specs.Lists.{keep}
-use Rattle.words.specs.Coded.{head_length}
-use Rattle.words.proofs.Filled.{filled_more, filled_all}
 use Rattle.lanes.specs.Lanes.{LowBody}
 use Rattle.lanes.specs.Rank.{ranks}
-use Rattle.lanes.proofs.Bodies.{low_both}
-use Rattle.lanes.proofs.RankedRows.{word_heads, keep_on, keep_off, keep_none}
 use Rattle.lanes.proofs.rank.ranking.Given as goal
 
 abbrev pub invariant-loop-n : goal.invariant-loop-n

@@ -1,12 +1,8 @@
 -- `search::clear_worse` goes from block to block. What is kept: only sets to which m is preferred have lost their marks, and block c lies between low
 -- and high where it is one. Assumes nothing.
 use mathlib.Core.Path.{sym, subst}
-use mathlib.Core.Logic.{⊎_elim}
-use Prim.Native.Nat.{◌-◌, ◌≤◌, ◌<◌}
+use Prim.Native.Nat.{◌<◌}
 use native.Mathlib.Omega.{arith}
-use borrow.Author.Rules.{rules}
-use lib.Dec.{T}
-use Rattle.atoms.specs.Atoms.{inside}
 use Rattle.lanes.specs.Rank.{over}
 use Rattle.lanes.specs.Left.{Cleared}
 use Rattle.lanes.proofs.Clearing.{clear_none, clear_more}
@@ -43,8 +39,8 @@ loop-c-preserved c =
       n.ensures.1,
       n.ensures.3,
       elim c.if-marks-c-ne0.branch [
-        then-marks-c-ne0 v ↦ subst (Cleared o a.m a.marks.now) (sym v.marks-is) (clear_more _ _ _ _ _ f v.meet.ensures.1)
-      | else-marks-c-ne0 v ↦ subst (Cleared o a.m a.marks.now) (sym v.marks-is) f
+        | then-marks-c-ne0 v ↦ subst (Cleared o a.m a.marks.now) (sym v.marks-is) (clear_more _ _ _ _ _ f v.meet.ensures.1)
+        | else-marks-c-ne0 v ↦ subst (Cleared o a.m a.marks.now) (sym v.marks-is) f
       ],
     )
 

@@ -1,15 +1,10 @@
 -- `search::clear_worse` goes from block to block. What is kept: only sets to which m is preferred have lost their marks, and block c lies between low
 -- and high where it is one. Assumes nothing.
-use mathlib.Core.Path.{sym, subst}
-use mathlib.Core.Logic.{⊎_elim}
 use Prim.Native.Nat.{◌-◌, ◌≤◌, ◌<◌}
-use native.Mathlib.Omega.{arith}
-use borrow.Author.Rules.{rules}
 use lib.Dec.{T}
 use Rattle.atoms.specs.Atoms.{inside}
 use Rattle.lanes.specs.Rank.{over}
 use Rattle.lanes.specs.Left.{Cleared}
-use Rattle.lanes.proofs.Clearing.{clear_none, clear_more}
 use Rattle.lanes.proofs.search.clear_worse.Given as goal
 
 abbrev pub invariant-loop-c : goal.invariant-loop-c

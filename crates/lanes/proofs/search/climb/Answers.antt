@@ -1,11 +1,8 @@
 -- `search::climb`. What is kept: c is marked, and no best set has lost its mark. Assumes nothing.
 use mathlib.Core.Path.{◌∙◌}
-use Prim.Native.Nat.{◌*◌, ◌<◌}
+use Prim.Native.Nat.{◌*◌}
 use native.Mathlib.Omega.{arith}
-use lib.Dec.{T}
-use Rattle.lanes.specs.Marks.{marked}
 use Rattle.lanes.specs.Rank.{over}
-use Rattle.lanes.specs.Left.{Left}
 use Rattle.lanes.proofs.Index.{searched_left}
 use Rattle.lanes.proofs.Clearing.{clear_left, clear_own, clear_rival}
 use Rattle.lanes.proofs.Champion.{by_rows, found_marked, found_over, left_start, left_more}

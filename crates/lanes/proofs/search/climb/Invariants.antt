@@ -1,14 +1,9 @@
 -- `search::climb`. What is kept: c is marked, and no best set has lost its mark. Assumes nothing.
-use mathlib.Core.Path.{◌∙◌}
-use Prim.Native.Nat.{◌*◌, ◌<◌}
-use native.Mathlib.Omega.{arith}
+use Prim.Native.Nat.{◌<◌}
 use lib.Dec.{T}
 use Rattle.lanes.specs.Marks.{marked}
 use Rattle.lanes.specs.Rank.{over}
 use Rattle.lanes.specs.Left.{Left}
-use Rattle.lanes.proofs.Index.{searched_left}
-use Rattle.lanes.proofs.Clearing.{clear_left, clear_own, clear_rival}
-use Rattle.lanes.proofs.Champion.{by_rows, found_marked, found_over, left_start, left_more}
 use Rattle.lanes.proofs.search.climb.Given as goal
 
 abbrev pub invariant-loop-left : goal.invariant-loop-left

@@ -1,7 +1,6 @@
 -- `search::first_best`: no set before the first marked one is best. Assumes nothing.
 use mathlib.Core.Path.{sym, ◌∙◌}
 use native.Mathlib.Omega.{arith}
-use borrow.Author.Rules.{rules}
 use Rattle.lanes.proofs.Seek.{next_passes, next_within}
 use Rattle.lanes.proofs.BestKept.{best_passes}
 use Rattle.lanes.proofs.Champion.{stays}

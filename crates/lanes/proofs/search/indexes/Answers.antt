@@ -1,13 +1,10 @@
 -- `search::indexes` makes the index block by block, where there is more than one. What is kept: it is right below block b, and block b lies between
 -- low and high where it has marks. Assumes nothing.
-use mathlib.Core.Path.{◌≡◌, refl, ◌∙◌}
-use Prim.Native.Nat.{◌-◌, ◌<◌}
+use mathlib.Core.Path.{refl, ◌∙◌}
 use native.Mathlib.Omega.{arith}
-use lib.Dec.{T}
-use lib.ListN.{length, length-set}
-use Rattle.atoms.specs.Atoms.{inside}
+use lib.ListN.{length-set}
 use Rattle.atoms.proofs.Bits.{inside_test}
-use Rattle.lanes.proofs.Index.{IndexTo, index_first, index_more, index_all, index_full}
+use Rattle.lanes.proofs.Index.{index_first, index_more, index_all, index_full}
 use Rattle.lanes.proofs.search.indexes.Goals as goal
 
 pub bounds-index-0 : goal.bounds-index-0

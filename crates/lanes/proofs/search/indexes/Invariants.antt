@@ -1,13 +1,11 @@
 -- `search::indexes` makes the index block by block, where there is more than one. What is kept: it is right below block b, and block b lies between
 -- low and high where it has marks. Assumes nothing.
-use mathlib.Core.Path.{◌≡◌, refl, ◌∙◌}
+use mathlib.Core.Path.{◌≡◌}
 use Prim.Native.Nat.{◌-◌, ◌<◌}
-use native.Mathlib.Omega.{arith}
 use lib.Dec.{T}
-use lib.ListN.{length, length-set}
+use lib.ListN.{length}
 use Rattle.atoms.specs.Atoms.{inside}
-use Rattle.atoms.proofs.Bits.{inside_test}
-use Rattle.lanes.proofs.Index.{IndexTo, index_first, index_more, index_all, index_full}
+use Rattle.lanes.proofs.Index.{IndexTo}
 use Rattle.lanes.proofs.search.indexes.Given as goal
 
 abbrev pub invariant-loop-b : goal.invariant-loop-b

@@ -1,13 +1,8 @@
 -- `search::keep_best` goes from one best set to the next. What is kept: no best set has lost its mark, m is marked where it is a set, and below m only
 -- best sets are marked. Assumes nothing.
 use mathlib.Core.Path.{◌∙◌}
-use Prim.Native.Nat.{ℕ, ◌+◌, ◌-◌, ◌≤◌, ◌<◌}
+use Prim.Native.Nat.{◌+◌, ◌<◌}
 use native.Mathlib.Omega.{arith}
-use lib.Dec.{T}
-use Rattle.lanes.specs.Marks.{marked}
-use Rattle.lanes.specs.Rank.{over}
-use Rattle.lanes.specs.Search.{sought_best}
-use Rattle.lanes.specs.Left.{Left}
 use Rattle.lanes.proofs.Seek.{next_passes}
 use Rattle.lanes.proofs.Index.{searched_left, stands}
 use Rattle.lanes.proofs.Champion.{by_rows, reaches, stays, none_to_first, left_start, left_more, kept_to, kept_on, kept_all}

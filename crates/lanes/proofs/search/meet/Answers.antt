@@ -1,7 +1,6 @@
 -- `search::meet` looks at the lanes of a block but m's own. Assumes nothing.
 use mathlib.Core.Path.{refl}
 use native.Mathlib.Omega.{arith}
-use borrow.Author.Rules.{rules}
 use Rattle.lanes.proofs.Index.{none_others, some_others}
 use Rattle.lanes.proofs.Clearing.{clear_none, clear_block}
 use Rattle.lanes.proofs.search.meet.Goals as goal

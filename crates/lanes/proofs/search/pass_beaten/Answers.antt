@@ -1,6 +1,5 @@
 -- `search::pass_beaten`: s is cleared; where something is marked after it, what a champion beats from s's block on is too. Assumes nothing.
 use native.Mathlib.Omega.{arith}
-use borrow.Author.Rules.{rules}
 use Rattle.lanes.specs.Rank.{over}
 use Rattle.lanes.proofs.Index.{stands, searched_left}
 use Rattle.lanes.proofs.Champion.{by_rows, left_more, dropped_left, dropped_own, dropped_other}

@@ -1,17 +1,13 @@
 -- `search::rival_from` grades m. Where every row has degree 1 nothing is preferred to it; else it goes from block to block. What is kept: the least
 -- rival from block b on is the least from block c on, only sets to which m is preferred have lost their marks, and block c lies between low and high
 -- where it is one. Assumes nothing.
-use mathlib.Core.Path.{◌≡◌, refl, sym, ◌∙◌, subst}
-use mathlib.Core.Logic.{⊎_elim}
-use Prim.Native.Nat.{◌+◌, ◌*◌, ◌-◌, ◌≤◌, ◌<◌}
+use mathlib.Core.Path.{refl, sym, ◌∙◌, subst}
+use Prim.Native.Nat.{◌+◌, ◌*◌, ◌<◌}
 use native.Mathlib.Omega.{arith}
-use borrow.Author.Rules.{rules}
 use lib.Count.{trailing_le}
 use lib.Dec.{T}
 use lib.ListN.{length}
-use Rattle.atoms.specs.Atoms.{inside}
 use Rattle.atoms.proofs.Truth.{true_yes}
-use Rattle.lanes.specs.Seek.{next_from}
 use Rattle.lanes.specs.Rank.{over}
 use Rattle.lanes.specs.Left.{rival, Cleared}
 use Rattle.lanes.proofs.Seek.{NoneBetween, next_none}
@@ -90,17 +86,17 @@ loop-c-preserved c =
     let n = c.next_block-c in
     let l : h.c < length a.marks.now = omega (arith, c.loop-c-test.true, f.same) in
     let none : NoneBetween q (64 * h.c) (64 * (h.c + 1)) =
-        elim came [
-          then-first-index+else-x-ne0 v ↦ word_none q h.c v.meet-x.result (rivals_before _ _ _ _ f (by_rows _) h.c v.meet-x.result v.meet-x.ensures.0) v.if-x-ne0.false
-        | else-first-index v ↦
-            word_none q h.c 0 (none_first _ a.marks.now h.c a.m _ a.index.now c.first_rows-first.result c.grade.ensures.0 c.first_rows-first.ensures z.firsts l v.if-first-index.false) refl
-        ] in (
+    elim came [
+      | then-first-index+else-x-ne0 v ↦ word_none q h.c v.meet-x.result (rivals_before _ _ _ _ f (by_rows _) h.c v.meet-x.result v.meet-x.ensures.0) v.if-x-ne0.false
+      | else-first-index v ↦
+          word_none q h.c 0 (none_first _ a.marks.now h.c a.m _ a.index.now c.first_rows-first.result c.grade.ensures.0 c.first_rows-first.ensures z.firsts l v.if-first-index.false) refl
+    ] in (
       n.ensures.1,
       n.ensures.3,
       h.invariant.2 ∙ scan_on o _ a.m _ _ z.between h.c n.result none n.ensures.0 n.ensures.1 n.ensures.2,
       elim came [
-        then-first-index+else-x-ne0 v ↦ subst (Cleared o a.m a.marks.now) (sym v.marks-is) (clear_more _ _ _ _ _ f v.meet-x.ensures.1)
-      | else-first-index v ↦ subst (Cleared o a.m a.marks.now) (sym v.marks-is) f
+        | then-first-index+else-x-ne0 v ↦ subst (Cleared o a.m a.marks.now) (sym v.marks-is) (clear_more _ _ _ _ _ f v.meet-x.ensures.1)
+        | else-first-index v ↦ subst (Cleared o a.m a.marks.now) (sym v.marks-is) f
       ],
     )
 

@@ -1,24 +1,13 @@
 -- `search::rival_from` grades m. Where every row has degree 1 nothing is preferred to it; else it goes from block to block. What is kept: the least
 -- rival from block b on is the least from block c on, only sets to which m is preferred have lost their marks, and block c lies between low and high
 -- where it is one. Assumes nothing.
-use mathlib.Core.Path.{◌≡◌, refl, sym, ◌∙◌, subst}
-use mathlib.Core.Logic.{⊎_elim}
-use Prim.Native.Nat.{◌+◌, ◌*◌, ◌-◌, ◌≤◌, ◌<◌}
-use native.Mathlib.Omega.{arith}
-use borrow.Author.Rules.{rules}
-use lib.Count.{trailing_le}
+use mathlib.Core.Path.{◌≡◌}
+use Prim.Native.Nat.{◌*◌, ◌-◌, ◌≤◌, ◌<◌}
 use lib.Dec.{T}
-use lib.ListN.{length}
 use Rattle.atoms.specs.Atoms.{inside}
-use Rattle.atoms.proofs.Truth.{true_yes}
 use Rattle.lanes.specs.Seek.{next_from}
 use Rattle.lanes.specs.Rank.{over}
 use Rattle.lanes.specs.Left.{rival, Cleared}
-use Rattle.lanes.proofs.Seek.{NoneBetween, next_none}
-use Rattle.lanes.proofs.Scan.{word_none, word_first, scan_on, scan_end}
-use Rattle.lanes.proofs.Index.{none_first, no_rival}
-use Rattle.lanes.proofs.Clearing.{clear_none, clear_more, rivals_before}
-use Rattle.lanes.proofs.Champion.{by_rows}
 use Rattle.lanes.proofs.search.rival_from.Given as goal
 
 abbrev pub invariant-loop-c : goal.invariant-loop-c

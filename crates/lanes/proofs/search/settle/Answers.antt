@@ -1,14 +1,11 @@
 -- `search::settle` goes from one marked set to a later one. What is kept: no best set has lost its mark, s is marked where it is a set, and nothing from
 -- m on up to s is marked any more. Assumes nothing.
 use mathlib.Core.Path.{sym, ◌∙◌}
-use Prim.Native.Nat.{◌+◌, ◌-◌, ◌*◌, ◌≤◌, ◌<◌}
+use Prim.Native.Nat.{◌+◌, ◌*◌, ◌<◌}
 use native.Mathlib.Omega.{arith}
-use lib.Dec.{T}
 use Rattle.atoms.proofs.Bits.{inside_test}
-use Rattle.lanes.specs.Marks.{marked}
 use Rattle.lanes.specs.Rank.{over}
-use Rattle.lanes.specs.Left.{Left}
-use Rattle.lanes.proofs.Seek.{NoneBetween, next_passes}
+use Rattle.lanes.proofs.Seek.{next_passes}
 use Rattle.lanes.proofs.Scan.{scan_start}
 use Rattle.lanes.proofs.Index.{searched_left}
 use Rattle.lanes.proofs.Clearing.{clear_left, clear_own, clear_rival}

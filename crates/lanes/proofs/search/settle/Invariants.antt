@@ -1,18 +1,11 @@
 -- `search::settle` goes from one marked set to a later one. What is kept: no best set has lost its mark, s is marked where it is a set, and nothing from
 -- m on up to s is marked any more. Assumes nothing.
-use mathlib.Core.Path.{sym, ◌∙◌}
-use Prim.Native.Nat.{◌+◌, ◌-◌, ◌*◌, ◌≤◌, ◌<◌}
-use native.Mathlib.Omega.{arith}
+use Prim.Native.Nat.{◌-◌, ◌≤◌, ◌<◌}
 use lib.Dec.{T}
-use Rattle.atoms.proofs.Bits.{inside_test}
 use Rattle.lanes.specs.Marks.{marked}
 use Rattle.lanes.specs.Rank.{over}
 use Rattle.lanes.specs.Left.{Left}
-use Rattle.lanes.proofs.Seek.{NoneBetween, next_passes}
-use Rattle.lanes.proofs.Scan.{scan_start}
-use Rattle.lanes.proofs.Index.{searched_left}
-use Rattle.lanes.proofs.Clearing.{clear_left, clear_own, clear_rival}
-use Rattle.lanes.proofs.Champion.{by_rows, reaches, stays, found_marked, found_over, left_start, left_best, left_more, settled_here, settled_end, passed_on}
+use Rattle.lanes.proofs.Seek.{NoneBetween}
 use Rattle.lanes.proofs.search.settle.Given as goal
 
 abbrev pub invariant-loop-s : goal.invariant-loop-s

@@ -1,6 +1,5 @@
 -- `search::unmark`: the word of s's block without s. Assumes nothing.
 use lib.ListN.{length-set}
-use borrow.Author.Rules.{rules}
 use Rattle.lanes.proofs.Index.{unmarked}
 use Rattle.lanes.proofs.search.unmark.Goals as goal
 

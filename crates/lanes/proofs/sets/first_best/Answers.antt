@@ -1,6 +1,5 @@
 -- `sets::first_best`: the index, and the search. Assumes nothing.
 use native.Mathlib.Omega.{arith}
-use borrow.Author.Rules.{rules}
 use Rattle.lanes.proofs.sets.first_best.Goals as goal
 
 pub first_best-requires : goal.first_best-requires

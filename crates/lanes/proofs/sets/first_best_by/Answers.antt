@@ -3,11 +3,10 @@ use mathlib.Core.Path.{ap, ◌∙◌}
 use mathlib.Core.List.{List}
 use Prim.Native.Nat.{ℕ}
 use native.Mathlib.Omega.{arith}
-use Rattle.words.proofs.Lent.{words_many, words_most}
+use Rattle.words.proofs.Lent.{words_most}
 use Rattle.lanes.specs.Rank.{over}
 use Rattle.lanes.specs.Seek.{next_from}
 use Rattle.lanes.specs.Search.{sought_best}
-use borrow.Author.Rules.{rules}
 use Rattle.lanes.proofs.sets.first_best_by.Goals as goal
 
 pub first_best-requires : goal.first_best-requires

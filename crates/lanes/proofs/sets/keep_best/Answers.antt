@@ -1,6 +1,5 @@
 -- `sets::keep_best`: the index, and the search. Assumes nothing.
 use native.Mathlib.Omega.{arith}
-use borrow.Author.Rules.{rules}
 use Rattle.lanes.proofs.sets.keep_best.Goals as goal
 
 pub keep_best-requires : goal.keep_best-requires

@@ -3,13 +3,11 @@ use mathlib.Core.Path.{refl, ap, ◌∙◌}
 use mathlib.Core.List.{List}
 use Prim.Native.Nat.{ℕ}
 use native.Mathlib.Omega.{arith}
-use borrow.Author.Tests.{not-true, not-false}
-use Rattle.words.proofs.Lent.{words_many, words_most}
+use Rattle.words.proofs.Lent.{words_most}
 use Rattle.lanes.specs.Rank.{over}
 use Rattle.lanes.specs.Seek.{all_from}
 use Rattle.lanes.specs.Search.{sought_best}
 use Rattle.lanes.proofs.AllSets.{same_all}
-use borrow.Author.Rules.{rules}
 use Rattle.lanes.proofs.sets.keep_wanted.Goals as goal
 
 pub returns-then-not-best : goal.returns-then-not-best

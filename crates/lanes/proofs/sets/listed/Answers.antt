@@ -1,7 +1,6 @@
 -- `sets::listed` counts, and stores where there is room. Assumes nothing.
 use native.Mathlib.Omega.{arith}
 use Rattle.lanes.proofs.Listed.{found_short, found_stored}
-use borrow.Author.Rules.{rules}
 use Rattle.lanes.proofs.sets.listed.Goals as goal
 
 pub returns-then-out-count : goal.returns-then-out-count

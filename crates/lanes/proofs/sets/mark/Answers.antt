@@ -3,7 +3,6 @@ use mathlib.Core.Path.{◌∙◌}
 use native.Mathlib.Omega.{arith}
 use Rattle.lanes.proofs.Filled.{inside_high}
 use Rattle.lanes.proofs.AllSets.{flags_top, within_all, all_answers, all_best}
-use borrow.Author.Rules.{rules}
 use Rattle.lanes.proofs.sets.mark.Goals as goal
 
 pub answers-requires : goal.answers-requires

@@ -8,7 +8,6 @@ use Rattle.lpod.specs.Best.{pick}
 use Rattle.words.specs.Coded.{program_in}
 use Rattle.words.proofs.Lent.{words_many, words_most}
 use Rattle.lanes.specs.Sets.{program_of, number_of}
-use borrow.Author.Rules.{rules}
 use Rattle.lanes.proofs.sets.pick.Goals as goal
 
 pub slice_bounds-pick_to-end : goal.slice_bounds-pick_to-end

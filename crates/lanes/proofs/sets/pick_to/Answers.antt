@@ -5,7 +5,6 @@ use Prim.Native.Nat.{◌+◌, ◌/◌}
 use native.Mathlib.Omega.{arith}
 use Rattle.words.proofs.Lent.{words_many, words_most}
 use Rattle.lanes.proofs.Listed.{no_marks, up_to_all}
-use borrow.Author.Rules.{rules}
 use Rattle.lanes.proofs.sets.pick_to.Goals as goal
 
 pub slice_bounds-pick_with-end-then-words-le4 : goal.slice_bounds-pick_with-end-then-words-le4

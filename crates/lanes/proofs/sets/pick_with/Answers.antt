@@ -6,7 +6,6 @@ use native.Mathlib.Omega.{arith}
 use Rattle.lpod.specs.Best.{first_of, pick}
 use Rattle.lanes.specs.Sets.{number_of}
 use Rattle.lanes.proofs.Listed.{first_number, may_list}
-use borrow.Author.Rules.{rules}
 use Rattle.lanes.proofs.sets.pick_with.Goals as goal
 
 pub first_best_by-requires : goal.first_best_by-requires

@@ -8,7 +8,6 @@ use Rattle.words.specs.Coded.{program_in}
 use Rattle.words.proofs.Lent.{words_many, words_most}
 use Rattle.lanes.specs.Sets.{program_of, wanted}
 use Rattle.lanes.proofs.Listed.{found_same}
-use borrow.Author.Rules.{rules}
 use Rattle.lanes.proofs.sets.sets.Goals as goal
 
 pub slice_bounds-sets_to-end : goal.slice_bounds-sets_to-end

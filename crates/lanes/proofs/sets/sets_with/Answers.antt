@@ -3,7 +3,6 @@ use mathlib.Core.Path.{refl, ◌∙◌}
 use native.Mathlib.Omega.{arith}
 use Rattle.words.specs.Coded.{program_in}
 use Rattle.lanes.proofs.Listed.{found_same, wanted_kept, may_list}
-use borrow.Author.Rules.{rules}
 use Rattle.lanes.proofs.sets.sets_with.Goals as goal
 
 pub keep_wanted-requires : goal.keep_wanted-requires

@@ -3,7 +3,6 @@ use mathlib.Core.Path.{◌∙◌}
 use Rattle.atoms.specs.Atoms.{has}
 use Rattle.lanes.specs.Lanes.{column}
 use Rattle.lanes.proofs.Bodies.{each_all}
-use borrow.Author.Rules.{rules}
 use Rattle.lanes.proofs.word.all_in.Goals as goal
 
 pub returns : goal.returns

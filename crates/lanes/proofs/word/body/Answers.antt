@@ -1,9 +1,7 @@
 -- `word::body`: the upper atoms of the body are the same in the whole block. Assumes nothing.
 use mathlib.Core.Path.{sym, ◌∙◌}
-use borrow.Author.Tests.{not-true, not-false}
 use Rattle.words.specs.Coded.{pos_set, neg_set}
 use Rattle.lanes.proofs.Bodies.{body_no_pos, body_no_neg, body_low}
-use borrow.Author.Rules.{rules}
 use Rattle.lanes.proofs.word.body.Goals as goal
 
 pub returns-then-not-part_of : goal.returns-then-not-part_of

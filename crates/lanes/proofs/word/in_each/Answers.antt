@@ -1,11 +1,9 @@
 -- `word::in_each` goes from the lowest atom up. Assumes nothing.
-use Prim.Native.Nat.{ℕ, ◌<◌}
-use mathlib.Core.Path.{◌≡◌, refl, sym, ◌∙◌}
-use mathlib.Core.Bool.{◌&&◌}
+use mathlib.Core.Path.{refl, sym, ◌∙◌}
 use native.Mathlib.Omega.{arith}
 use Rattle.atoms.specs.Atoms.{has}
 use Rattle.lanes.specs.Lanes.{column}
-use Rattle.lanes.proofs.Bodies.{lowest_small, rest_less, Each, each_turn, each_end}
+use Rattle.lanes.proofs.Bodies.{lowest_small, rest_less, each_turn, each_end}
 use Rattle.lanes.proofs.word.in_each.Goals as goal
 
 pub loop-rest-init : goal.loop-rest-init

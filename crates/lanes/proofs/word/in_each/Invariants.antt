@@ -1,11 +1,10 @@
 -- `word::in_each` goes from the lowest atom up. Assumes nothing.
 use Prim.Native.Nat.{ℕ, ◌<◌}
-use mathlib.Core.Path.{◌≡◌, refl, sym, ◌∙◌}
+use mathlib.Core.Path.{◌≡◌}
 use mathlib.Core.Bool.{◌&&◌}
-use native.Mathlib.Omega.{arith}
 use Rattle.atoms.specs.Atoms.{has}
 use Rattle.lanes.specs.Lanes.{column}
-use Rattle.lanes.proofs.Bodies.{lowest_small, rest_less, Each, each_turn, each_end}
+use Rattle.lanes.proofs.Bodies.{Each}
 use Rattle.lanes.proofs.word.in_each.Given as goal
 
 abbrev pub invariant-loop-rest : goal.invariant-loop-rest

@@ -1,9 +1,7 @@
 -- `word::low_bodies` goes through the rows in block 0, whose sets are the numbers of the lanes. Assumes nothing.
-use Prim.Native.Nat.{ℕ, ◌-◌, ◌<◌, ◌≤◌}
-use mathlib.Core.Path.{◌≡◌, refl, ◌∙◌}
+use mathlib.Core.Path.{refl, ◌∙◌}
 use native.Mathlib.Omega.{arith}
-use lib.ListN.{length, get_or, length-set}
-use Rattle.lanes.specs.Lanes.{LowBody}
+use lib.ListN.{length-set}
 use Rattle.lanes.proofs.Bodies.{low_made, low_more}
 use Rattle.lanes.proofs.word.low_bodies.Goals as goal
 

@@ -1,10 +1,7 @@
 -- `word::raise` goes from the lowest atom up. Assumes nothing.
-use Prim.Native.Nat.{ℕ, ◌<◌}
-use mathlib.Core.Path.{◌≡◌, refl, sym, ◌∙◌}
-use mathlib.Core.Bool.{◌||◌}
+use mathlib.Core.Path.{refl, sym, ◌∙◌}
 use native.Mathlib.Omega.{arith}
-use lib.ListN.{length, get_or, length-set}
-use Rattle.atoms.specs.Atoms.{has}
+use lib.ListN.{length-set}
 use Rattle.lanes.proofs.Bodies.{lowest_small, rest_less, raise_turn, raise_end}
 use Rattle.lanes.proofs.word.raise.Goals as goal
 

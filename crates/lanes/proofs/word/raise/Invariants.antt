@@ -1,11 +1,9 @@
 -- `word::raise` goes from the lowest atom up. Assumes nothing.
 use Prim.Native.Nat.{ℕ, ◌<◌}
-use mathlib.Core.Path.{◌≡◌, refl, sym, ◌∙◌}
+use mathlib.Core.Path.{◌≡◌}
 use mathlib.Core.Bool.{◌||◌}
-use native.Mathlib.Omega.{arith}
-use lib.ListN.{length, get_or, length-set}
+use lib.ListN.{length, get_or}
 use Rattle.atoms.specs.Atoms.{has}
-use Rattle.lanes.proofs.Bodies.{lowest_small, rest_less, raise_turn, raise_end}
 use Rattle.lanes.proofs.word.raise.Given as goal
 
 abbrev pub invariant-loop-rest : goal.invariant-loop-rest

@@ -1,6 +1,5 @@
 -- `word::to_block`: the words of the upper atoms are raised. Assumes nothing.
 use Rattle.lanes.proofs.Words.{block_made}
-use borrow.Author.Rules.{rules}
 use Rattle.lanes.proofs.word.to_block.Goals as goal
 
 pub returns : goal.returns

@@ -1,7 +1,6 @@
 -- `bits_from` answers whether a bit stands at place a or above: below 16 a shift leaves such bits only, and from 16 on there are none.
 -- Assumes nothing.
 use mathlib.Core.Path.{sym}
-use borrow.Author.Rules.{rules}
 use Rattle.page.proofs.Words.{bits_shift, bits_none}
 use Rattle.page.proofs.accept.bits_from.Goals as goal
 

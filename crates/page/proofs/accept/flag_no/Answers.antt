@@ -1,5 +1,4 @@
 -- `flag_no` gives the number of a page and a flag word: the page's refusals come first, and then the one of the word. Assumes nothing.
-use borrow.Author.Rules.{rules}
 use mathlib.Core.List.{[], ◌∷◌}
 use Rattle.page.specs.Refusals.{refuse, flags_out, page_refusals, page_no, flag_refusals, flag_no}
 use Rattle.page.proofs.Refusals.{first_append, page_numbered}

@@ -1,5 +1,4 @@
 -- `flags_out` answers what `flags_out` says: it tests the word from the number of atoms on. Assumes nothing.
-use borrow.Author.Rules.{rules}
 use Rattle.page.specs.Refusals.{flags_out}
 use Rattle.page.proofs.accept.flags_out.Goals as goal
 

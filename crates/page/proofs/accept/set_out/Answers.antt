@@ -1,5 +1,4 @@
 -- `set_out` answers what `set_out` says: it tests the word from the number of atoms on. Assumes nothing.
-use borrow.Author.Rules.{rules}
 use Rattle.page.specs.Refusals.{set_out}
 use Rattle.page.proofs.accept.set_out.Goals as goal
 

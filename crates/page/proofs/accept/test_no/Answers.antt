@@ -1,6 +1,5 @@
 -- `test_no` gives the number of a page, a flag word and a set: the refusals of page and flag word come first, and then the one of the
 -- set. Assumes nothing.
-use borrow.Author.Rules.{rules}
 use Rattle.page.specs.Refusals.{flag_refusals, flag_no, set_refusals, test_refusals, test_no}
 use Rattle.page.proofs.Refusals.{first_append, flag_numbered}
 use Rattle.page.proofs.accept.test_no.Goals as goal

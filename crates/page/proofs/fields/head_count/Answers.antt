@@ -1,7 +1,6 @@
 -- `head_count` reads the first byte of row r. Assumes nothing.
 use native.Mathlib.Nat.{add-zero}
 use Rattle.page.specs.Fields.{head_count}
-use borrow.Author.Rules.{rules}
 use Rattle.page.proofs.fields.head_count.Goals as goal
 
 pub returns : goal.returns

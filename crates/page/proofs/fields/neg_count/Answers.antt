@@ -1,6 +1,5 @@
 -- `neg_count` reads the third byte of row r. Assumes nothing.
 use Rattle.page.specs.Fields.{neg_count}
-use borrow.Author.Rules.{rules}
 use Rattle.page.proofs.fields.neg_count.Goals as goal
 
 pub returns : goal.returns

@@ -1,6 +1,5 @@
 -- `pos_count` reads the second byte of row r. Assumes nothing.
 use Rattle.page.specs.Fields.{pos_count}
-use borrow.Author.Rules.{rules}
 use Rattle.page.proofs.fields.pos_count.Goals as goal
 
 pub returns : goal.returns

@@ -1,6 +1,4 @@
 use Rattle.page.specs.Fields.{rows_at}
-use Rattle.page.proofs.fields.rows_at.Reads as reads
-use Rattle.page.proofs.fields.rows_at.Lts as lts
 use Rattle.page.proofs.fields.rows_at.Goals as goal
 
 -- src/fields.rt:57:1

@@ -1,6 +1,5 @@
 -- `spare_byte` reads the fourth byte of row r. Assumes nothing.
 use Rattle.page.specs.Fields.{spare_byte}
-use borrow.Author.Rules.{rules}
 use Rattle.page.proofs.fields.spare_byte.Goals as goal
 
 pub returns : goal.returns

@@ -1,5 +1,4 @@
 -- `counts_out` tests four numbers, each against its range, as `counts_out` does. Assumes nothing.
-use borrow.Author.Rules.{rules}
 use Rattle.page.specs.Refusals.{counts_out}
 use Rattle.page.proofs.ranges.counts_out.Goals as goal
 

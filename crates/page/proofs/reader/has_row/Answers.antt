@@ -1,6 +1,5 @@
 -- `reader::has_row` makes the two tests of the definition. Assumes nothing.
 use borrow.Author.Tests.{ne_eqb}
-use borrow.Author.Rules.{rules}
 use Rattle.page.specs.Reader.{has_row}
 use Rattle.page.proofs.reader.has_row.Goals as goal
 

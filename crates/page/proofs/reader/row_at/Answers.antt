@@ -1,5 +1,4 @@
 -- `reader::row_at` reads row n at its place where there is one, and else says that there is none. Assumes nothing.
-use borrow.Author.Rules.{rules}
 use Rattle.page.specs.Rows.{row_from}
 use Rattle.page.specs.Reader.{said, row_there, row_said}
 use Rattle.page.proofs.reader.row_at.Goals as goal

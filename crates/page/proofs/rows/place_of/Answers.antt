@@ -1,6 +1,5 @@
 -- `rows::place_of` goes from row to row, and keeps the place of the one in hand. Assumes nothing.
-use mathlib.Core.Path.{◌≡◌, ap, ◌∙◌}
-use Prim.Native.Nat.{◌-◌, ◌≤◌}
+use mathlib.Core.Path.{ap, ◌∙◌}
 use native.Mathlib.Omega.{arith}
 use Rattle.page.specs.Program.{literal_place}
 use Rattle.page.proofs.RowSteps.{at_first, at_next}
@@ -13,7 +12,7 @@ pub loop-r-preserved : goal.loop-r-preserved
 loop-r-preserved c =
     let h = c.loop-r in
     let row = c.row_from in
-    (omega arith, at_next _ c.shared_slice_known-1.given h.r _ row.result (omega arith) h.invariant.1 row.ensures _ c.place_after-place.ensures)
+    (omega arith, at_next _ c.type_inv.page h.r _ row.result (omega arith) h.invariant.1 row.ensures _ c.place_after-place.ensures)
 
 pub returns : goal.returns
 returns c =

@@ -1,9 +1,7 @@
 -- `rows::place_of` goes from row to row, and keeps the place of the one in hand. Assumes nothing.
-use mathlib.Core.Path.{◌≡◌, ap, ◌∙◌}
+use mathlib.Core.Path.{◌≡◌}
 use Prim.Native.Nat.{◌-◌, ◌≤◌}
-use native.Mathlib.Omega.{arith}
 use Rattle.page.specs.Program.{literal_place}
-use Rattle.page.proofs.RowSteps.{at_first, at_next}
 use Rattle.page.proofs.rows.place_of.Given as goal
 
 abbrev pub invariant-loop-r : goal.invariant-loop-r

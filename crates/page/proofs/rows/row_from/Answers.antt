@@ -1,5 +1,4 @@
 -- `rows::row_from` reads the three counts of row n: straight from the page where it has the row, else one by one. Assumes nothing.
-use borrow.Author.Rules.{rules}
 use Rattle.page.specs.Fields.{rows_at, head_count, pos_count, neg_count}
 use Rattle.page.specs.Rows.{row_from}
 use Rattle.page.proofs.rows.row_from.Goals as goal

@@ -2,7 +2,6 @@
 use mathlib.Core.Path.{◌∙◌}
 use Rattle.words.specs.Coded.{rule_in}
 use Rattle.routes.proofs.HeadsHold.{head_none, head_first}
-use borrow.Author.Rules.{rules}
 use Rattle.routes.proofs.here_there.head_holds.Goals as goal
 
 pub returns-then-k-eq0 : goal.returns-then-k-eq0

@@ -2,8 +2,7 @@
 use mathlib.Core.Path.{ap, ◌∙◌}
 use mathlib.Core.Bool.{Bool}
 use Prim.Native.Nat.{ℕ}
-use borrow.Author.Rules.{rules}
-use Rattle.words.proofs.Lent.{words_many, lent_here_there, test_page}
+use Rattle.words.proofs.Lent.{lent_here_there, test_page}
 use Rattle.routes.specs.Tests.{here_there_test}
 use Rattle.routes.proofs.Verdicts.{refused, given}
 use Rattle.routes.proofs.here_there.here_there_test.Goals as goal

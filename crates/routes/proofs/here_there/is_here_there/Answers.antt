@@ -1,5 +1,4 @@
 -- `here_there::is_here_there` makes the three tests in order. Assumes nothing.
-use borrow.Author.Tests.{not-true, not-false}
 use Rattle.lpod.specs.Rule.{rules}
 use Rattle.words.specs.Coded.{rules_with, program_in}
 use Rattle.routes.proofs.HeadsHold.{holds_pair, not_itself, by_smaller}

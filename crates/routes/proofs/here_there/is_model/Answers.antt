@@ -1,5 +1,4 @@
 -- `here_there::is_model` tests the rows of the raised atoms by the flags held in both sets, then the rows. Assumes nothing.
-use borrow.Author.Tests.{not-true, not-false}
 use mathlib.Core.List.{[]}
 use Rattle.lpod.specs.Rule.{rules}
 use Rattle.words.specs.Coded.{rules_with, program_in}

@@ -1,16 +1,13 @@
 -- `here_there::none_smaller` counts up through the numbers below `there`. What is kept: the answer for all is the answer for those from
 -- `here` on. Assumes nothing.
-use mathlib.Core.Path.{◌≡◌, sym, ap, ◌∙◌}
-use mathlib.Core.Bool.{Bool, ◌&&◌, not}
-use mathlib.Core.List.{List}
-use Prim.Native.Nat.{ℕ, ◌-◌, ◌≤◌}
+use mathlib.Core.Path.{sym, ap, ◌∙◌}
+use mathlib.Core.Bool.{not}
+use Prim.Native.Nat.{ℕ}
 use native.Mathlib.Nat.{sub-zero}
 use native.Mathlib.Omega.{arith}
-use Rattle.atoms.specs.Atoms.{inside}
 use Rattle.lpod.specs.Lists.{every, numbers}
-use Rattle.lpod.specs.HereThere.{model, no_smaller}
+use Rattle.lpod.specs.HereThere.{no_smaller}
 use Rattle.lpod.proofs.Lists.{numbers_next, numbers_done}
-use Rattle.words.specs.Coded.{rules_with}
 use Rattle.page.proofs.Scan.{every_go, every_stop, every_none}
 use Rattle.routes.proofs.here_there.none_smaller.Invariants.{fails}
 use Rattle.routes.proofs.here_there.none_smaller.Goals as goal

@@ -1,6 +1,5 @@
 -- `here_there::part_models` tries the part first. Assumes nothing.
 use mathlib.Core.Path.{◌∙◌}
-use borrow.Author.Rules.{rules}
 use Rattle.routes.proofs.here_there.part_models.Goals as goal
 
 pub returns-then-part_of : goal.returns-then-part_of

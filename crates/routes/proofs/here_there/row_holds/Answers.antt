@@ -1,8 +1,6 @@
 -- `here_there::row_holds` tests a row in (here, there) by its parts. Assumes nothing.
-use borrow.Author.Tests.{not-true, not-false}
 use Rattle.words.specs.Coded.{rule_in}
 use Rattle.routes.proofs.HeadsHold.{row_unsatisfied, row_missed, row_blocked, row_head}
-use borrow.Author.Rules.{rules}
 use Rattle.routes.proofs.here_there.row_holds.Goals as goal
 
 pub returns-then-not-satisfied : goal.returns-then-not-satisfied

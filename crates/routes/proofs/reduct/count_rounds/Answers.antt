@@ -1,11 +1,7 @@
 -- `reduct::count_rounds` makes rounds from the empty set and counts them. What is kept: each that was counted added something, and they have come to the
 -- set reached. It stops where a round adds nothing, or after as many rounds as the set has atoms, when it has come to the set. Assumes nothing.
-use Prim.Native.Nat.{◌-◌}
 use native.Mathlib.Omega.{arith}
-use borrow.Author.Rules.{rules}
-use Rattle.lpod.specs.Reduct.{reduct}
-use Rattle.words.specs.Coded.{rules_with}
-use Rattle.routes.proofs.Rounds.{Made, made_start, made_round, made_quiet, made_whole}
+use Rattle.routes.proofs.Rounds.{made_start, made_round, made_quiet, made_whole}
 use Rattle.routes.proofs.reduct.count_rounds.Goals as goal
 
 pub loop-count-init : goal.loop-count-init

@@ -1,5 +1,4 @@
 -- `reduct::is_answer` makes the four tests in order and stops at the first that fails. Assumes nothing.
-use borrow.Author.Tests.{not-true, not-false}
 use Rattle.lpod.specs.Rule.{rules}
 use Rattle.words.specs.Coded.{rules_with, program_in}
 use Rattle.routes.proofs.FourTests.{fails_pair, fails_rows, fails_flags, by_support}

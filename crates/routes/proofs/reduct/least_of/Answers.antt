@@ -2,11 +2,8 @@
 -- nothing, which is closed, or at `set` itself, which is closed under its own reduct; either is the least. Each round but the last gives
 -- a larger number. Assumes nothing.
 use mathlib.Core.Path.{refl}
-use Prim.Native.Nat.{◌-◌}
 use native.Mathlib.Omega.{arith}
-use Rattle.lpod.specs.Reduct.{reduct}
-use Rattle.words.specs.Coded.{rules_with}
-use Rattle.routes.proofs.Rounds.{Smallest, small_start, small_round, small_fixed, small_grows, small_whole}
+use Rattle.routes.proofs.Rounds.{small_start, small_round, small_fixed, small_grows, small_whole}
 use Rattle.routes.proofs.reduct.least_of.Goals as goal
 
 pub loop-s-init : goal.loop-s-init

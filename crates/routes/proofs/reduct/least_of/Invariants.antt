@@ -1,12 +1,10 @@
 -- `reduct::least_of` makes rounds from the empty set. What is kept: the set reached lies inside every closed set. It stops where a round adds
 -- nothing, which is closed, or at `set` itself, which is closed under its own reduct; either is the least. Each round but the last gives
 -- a larger number. Assumes nothing.
-use mathlib.Core.Path.{refl}
 use Prim.Native.Nat.{◌-◌}
-use native.Mathlib.Omega.{arith}
 use Rattle.lpod.specs.Reduct.{reduct}
 use Rattle.words.specs.Coded.{rules_with}
-use Rattle.routes.proofs.Rounds.{Smallest, small_start, small_round, small_fixed, small_grows, small_whole}
+use Rattle.routes.proofs.Rounds.{Smallest}
 use Rattle.routes.proofs.reduct.least_of.Given as goal
 
 abbrev pub invariant-loop-s : goal.invariant-loop-s

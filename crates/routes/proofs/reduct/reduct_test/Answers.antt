@@ -2,8 +2,7 @@
 use mathlib.Core.Path.{ap, ◌∙◌}
 use mathlib.Core.Bool.{Bool}
 use Prim.Native.Nat.{ℕ}
-use borrow.Author.Rules.{rules}
-use Rattle.words.proofs.Lent.{words_many, lent_answer, test_page}
+use Rattle.words.proofs.Lent.{lent_answer, test_page}
 use Rattle.routes.specs.Tests.{reduct_test}
 use Rattle.routes.proofs.Verdicts.{refused, given}
 use Rattle.routes.proofs.reduct.reduct_test.Goals as goal

@@ -1,11 +1,10 @@
 -- `reduct::rounds` gives the number of the first refusal, or the count. On an accepted page the words mean its rows. Assumes nothing.
 use mathlib.Core.Path.{ap, ◌∙◌}
 use mathlib.Core.List.{List}
-use borrow.Author.Rules.{rules}
 use Rattle.lpod.specs.Rule.{Rule}
 use Rattle.lpod.specs.Reduct.{reduct}
 use Rattle.lpod.specs.Chain.{chain, chain_to}
-use Rattle.words.proofs.Lent.{words_many, lent_rules, test_page}
+use Rattle.words.proofs.Lent.{lent_rules, test_page}
 use Rattle.routes.specs.Rounds.{rounds_to}
 use Rattle.routes.proofs.CountedRounds.{rounds_refused, rounds_given}
 use Rattle.routes.proofs.reduct.rounds.Goals as goal

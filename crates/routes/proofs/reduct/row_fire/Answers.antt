@@ -1,8 +1,6 @@
 -- `reduct::row_fire` adds what the row's rule of the reduct gives: nothing where a negative atom is in the set, the positive body is not in s, or no
 -- head atom is in the set; else the first head atom in the set. Assumes nothing.
 use mathlib.Core.Path.{◌∙◌}
-use borrow.Author.Rules.{rules}
-use borrow.Author.Tests.{not-true, not-false}
 use Rattle.lpod.proofs.Firing.{fire_blocked, fire_headless, fire_waits, fire_gives}
 use Rattle.words.specs.Coded.{rule_in}
 use Rattle.routes.proofs.reduct.row_fire.Goals as goal

@@ -1,14 +1,11 @@
 -- `reduct::rows_fire` goes through the rows. What is kept: what all rows add to s is what those that are left add to t. Assumes nothing.
-use mathlib.Core.Path.{◌≡◌, refl, sym, ◌∙◌}
+use mathlib.Core.Path.{◌≡◌}
 use mathlib.Core.List.{map}
 use Prim.Native.Nat.{◌-◌, ◌≤◌}
-use native.Mathlib.Omega.{arith}
 use lib.ListN.{length, drop}
 use Rattle.lpod.specs.Reduct.{reduct}
 use Rattle.lpod.specs.Least.{fire}
-use Rattle.lpod.proofs.Firing.{fire_step, fire_none}
 use Rattle.words.specs.Coded.{rule_in, rules_in}
-use Rattle.words.proofs.Rest.{rest_step, rest_none}
 use Rattle.routes.proofs.reduct.rows_fire.Given as goal
 
 abbrev pub invariant-loop-n : goal.invariant-loop-n

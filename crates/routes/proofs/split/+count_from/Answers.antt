@@ -1,6 +1,6 @@
 -- `split::count_from` calls itself with one row fewer. Without rows it tests the choice; else it adds up the counts with each option of the last row. What
 -- is kept: the total is the sum over the options passed. It is no more than the number of split programs, so that it fits. Assumes nothing.
-use Rattle.std.proofs.Common.{◌≡◌, ℕ, ◌-◌, max, length, refl, sym, ap, ◌∙◌, cond, arith}
+use Rattle.std.proofs.Common.{◌≡◌, ◌-◌, max, length, refl, sym, ap, ◌∙◌, cond, arith}
 use Rattle.routes.proofs.SplitRows.{row_at}
 use Rattle.routes.proofs.SplitSums.{sum_below, below_more}
 use Rattle.routes.proofs.SplitNumber.{number_down}

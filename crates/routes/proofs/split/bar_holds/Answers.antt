@@ -1,6 +1,5 @@
 -- `split::bar_holds`: a row with head asks nothing of the set itself, a row without head that its body does not hold. Assumes nothing.
 use native.Mathlib.Omega.{arith}
-use borrow.Author.Rules.{rules}
 use Rattle.words.specs.Coded.{rule_in}
 use Rattle.routes.proofs.SplitOption.{bar_headed, bar_headless}
 use Rattle.routes.proofs.split.bar_holds.Goals as goal

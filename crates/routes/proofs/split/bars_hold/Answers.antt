@@ -1,12 +1,7 @@
 -- `split::bars_hold` goes through the rows and stops at the first without head whose body holds. What is kept: the answer for all rows is the answer
 -- for those that are left. Assumes nothing.
-use mathlib.Core.Path.{◌≡◌, refl, sym, ◌∙◌}
-use mathlib.Core.List.{map}
-use Prim.Native.Nat.{◌-◌, ◌≤◌}
+use mathlib.Core.Path.{refl, sym, ◌∙◌}
 use native.Mathlib.Omega.{arith}
-use lib.ListN.{length, drop}
-use borrow.Author.Tests.{not-true, not-false}
-use Rattle.lpod.specs.Lists.{every}
 use Rattle.page.proofs.Scan.{every_go, every_stop, every_none}
 use Rattle.words.specs.Coded.{rule_in, rules_in}
 use Rattle.words.proofs.Rest.{rest_step, rest_none}

@@ -1,5 +1,4 @@
 -- `split::chosen_answer` makes the test that an answer set of a split program is: its rows without head, then its least closed set. Assumes nothing.
-use borrow.Author.Rules.{rules}
 use Rattle.words.specs.Coded.{rules_in}
 use Rattle.routes.proofs.SplitRound.{answer_barred, answer_least}
 use Rattle.routes.proofs.split.chosen_answer.Goals as goal

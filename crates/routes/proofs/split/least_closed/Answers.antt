@@ -1,13 +1,8 @@
 -- `split::least_closed` makes rounds from the empty set until one adds nothing. What is kept: s is inside every closed set, and t is what a round makes
 -- of it. A round only adds, so t is the larger number as long as something is added, and that cannot go on above 16 bits. Assumes nothing.
-use mathlib.Core.Path.{◌≡◌, refl, sym}
-use Prim.Native.Nat.{◌-◌, ◌<◌}
+use mathlib.Core.Path.{refl, sym}
 use native.Mathlib.Omega.{arith}
-use Rattle.lpod.specs.Least.{fire}
-use Rattle.lpod.specs.Split.{gl_reduct}
-use Rattle.words.specs.Coded.{rules_in}
-use Rattle.routes.specs.Choice.{program_from}
-use Rattle.routes.proofs.Rounds.{Smallest, small_start, small_round, small_fixed, small_grows}
+use Rattle.routes.proofs.Rounds.{small_start, small_round, small_fixed, small_grows}
 use Rattle.routes.proofs.split.least_closed.Goals as goal
 
 pub round-t-requires : goal.round-t-requires

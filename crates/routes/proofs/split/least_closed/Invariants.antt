@@ -1,13 +1,12 @@
 -- `split::least_closed` makes rounds from the empty set until one adds nothing. What is kept: s is inside every closed set, and t is what a round makes
 -- of it. A round only adds, so t is the larger number as long as something is added, and that cannot go on above 16 bits. Assumes nothing.
-use mathlib.Core.Path.{◌≡◌, refl, sym}
+use mathlib.Core.Path.{◌≡◌}
 use Prim.Native.Nat.{◌-◌, ◌<◌}
-use native.Mathlib.Omega.{arith}
 use Rattle.lpod.specs.Least.{fire}
 use Rattle.lpod.specs.Split.{gl_reduct}
 use Rattle.words.specs.Coded.{rules_in}
 use Rattle.routes.specs.Choice.{program_from}
-use Rattle.routes.proofs.Rounds.{Smallest, small_start, small_round, small_fixed, small_grows}
+use Rattle.routes.proofs.Rounds.{Smallest}
 use Rattle.routes.proofs.split.least_closed.Given as goal
 
 abbrev pub invariant-loop-s : goal.invariant-loop-s

@@ -2,7 +2,6 @@
 -- atom in the set, a positive body in s, and one that is not. Assumes nothing.
 use mathlib.Core.Path.{refl, ◌∙◌}
 use native.Mathlib.Omega.{arith}
-use borrow.Author.Rules.{rules}
 use Rattle.words.specs.Coded.{rule_in}
 use Rattle.routes.proofs.SplitOption.{fire_headless, fire_denied, fire_earlier, fire_missed, fire_added, head_small}
 use Rattle.routes.proofs.split.option_fire.Goals as goal

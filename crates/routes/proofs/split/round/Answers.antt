@@ -1,15 +1,9 @@
 -- `split::round` goes through the rows and lets the chosen option of each fire on s, adding to t; the flags come in at the end. What is kept: firing
 -- the options of all rows is firing those from the row in hand on, added to t. Assumes nothing.
-use mathlib.Core.Path.{◌≡◌, refl, ◌∙◌}
-use mathlib.Core.List.{map}
-use Prim.Native.Nat.{◌-◌, ◌≤◌}
+use mathlib.Core.Path.{refl, ◌∙◌}
 use native.Mathlib.Omega.{arith}
-use lib.ListN.{length, drop}
-use Rattle.lpod.specs.Least.{fire}
-use Rattle.lpod.specs.Split.{gl_reduct}
 use Rattle.words.specs.Coded.{rule_in, rules_in}
 use Rattle.words.proofs.Rest.{rest_step, rest_none}
-use Rattle.routes.specs.Choice.{taken}
 use Rattle.routes.proofs.SplitRound.{round_next, round_end, round_flags}
 use Rattle.routes.proofs.split.round.Goals as goal
 

@@ -4,7 +4,6 @@ use native.Mathlib.Nat.{le_refl}
 use native.Mathlib.Omega.{arith}
 use lib.ListN.{length}
 use lib.Seq.{take_all}
-use borrow.Author.Rules.{rules}
 use Rattle.words.specs.Coded.{rules_in}
 use Rattle.routes.proofs.SplitRows.{rows_many}
 use Rattle.routes.proofs.SplitChoices.{count_whole, count_paired}

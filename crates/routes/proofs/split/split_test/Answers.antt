@@ -1,6 +1,5 @@
 -- `split::split_test`: refused, the number alone; accepted, the count over the page's words, which mean its program. Assumes nothing.
 use native.Mathlib.Omega.{arith}
-use borrow.Author.Rules.{rules}
 use Rattle.words.proofs.Lent.{words_many}
 use Rattle.routes.specs.Split.{counted, uncounted}
 use Rattle.routes.proofs.SplitAccepted.{refused_found, refused_many, rows_few, counted_words}

@@ -1,12 +1,7 @@
 -- `split::too_many` multiplies the option counts row by row and stops above 4,096. What is kept: the product so far is at most 4,096, and times the
 -- number of the rows left it is the whole number. Assumes nothing.
-use mathlib.Core.Path.{◌≡◌}
-use mathlib.Core.List.{map}
-use Prim.Native.Nat.{◌+◌, ◌*◌, ◌-◌, ◌≤◌}
+use Prim.Native.Nat.{◌+◌}
 use native.Mathlib.Omega.{arith}
-use lib.ListN.{length, drop}
-use Rattle.lpod.specs.Split.{split_number}
-use Rattle.words.specs.Coded.{rule_in, rules_in}
 use Rattle.routes.proofs.SplitNumber.{number_first, number_next, number_stop, number_end, number_small}
 use Rattle.routes.proofs.split.too_many.Goals as goal
 

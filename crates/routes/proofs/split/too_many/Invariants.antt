@@ -2,12 +2,10 @@
 -- number of the rows left it is the whole number. Assumes nothing.
 use mathlib.Core.Path.{◌≡◌}
 use mathlib.Core.List.{map}
-use Prim.Native.Nat.{◌+◌, ◌*◌, ◌-◌, ◌≤◌}
-use native.Mathlib.Omega.{arith}
+use Prim.Native.Nat.{◌*◌, ◌-◌, ◌≤◌}
 use lib.ListN.{length, drop}
 use Rattle.lpod.specs.Split.{split_number}
 use Rattle.words.specs.Coded.{rule_in, rules_in}
-use Rattle.routes.proofs.SplitNumber.{number_first, number_next, number_stop, number_end, number_small}
 use Rattle.routes.proofs.split.too_many.Given as goal
 
 abbrev pub invariant-loop-n : goal.invariant-loop-n

@@ -1,13 +1,13 @@
 -- `read::fill_rows` stores one row after the other. What is kept: the row in hand stands at `place`, and the words stored, with those of the rows
 -- to come, are all of them; the words after these are as they were. That the array has 32 words is known where it is lent as a slice. Assumes nothing.
+use Rattle.std.proofs.Common.{rules}
 use mathlib.Core.Path.{◌≡◌, refl, ap, ◌∙◌}
-use mathlib.Core.List.{List, ◌∷◌, ◌++◌, map}
-use Prim.Native.Nat.{ℕ, ◌-◌, ◌≤◌, ◌<◌}
+use mathlib.Core.List.{List, ◌∷◌, map}
+use Prim.Native.Nat.{ℕ, ◌<◌}
 use native.Mathlib.Nat.{sub-zero}
 use native.Mathlib.Omega.{arith}
-use lib.ListN.{length, take, drop, length-set}
+use lib.ListN.{length-set}
 use Rattle.lpod.specs.Rule.{Rule}
-use Rattle.page.specs.Program.{rows_from, literal_place}
 use Rattle.page.proofs.RowSteps.{at_first, at_next, rest_step, rest_none}
 use Rattle.words.specs.Coded.{row_word, row_total, row_words}
 use Rattle.words.proofs.Filled.{filled_more, filled_all, kept_more, kept_rest}
@@ -21,7 +21,7 @@ pub loop-n-init : goal.loop-n-init
 unfolding row_words
 loop-n-init c =
     let first = c.first_place-place.ensures in
-    (omega arith, at_first _ _ first, c.out-1.given.0.1, rw (sub-zero, first, c.row_total-total.ensures.0), refl)
+    (omega arith, at_first _ _ first, (search rules), rw (sub-zero, first, c.row_total-total.ensures.0), refl)
 
 pub loop-n-preserved : goal.loop-n-preserved
 loop-n-preserved c =
@@ -31,10 +31,10 @@ loop-n-preserved c =
     let total = c.row_total-total.result in
     let small : h.n < 65536 = omega (arith, c.row_total-total.ensures.1) in (
       omega arith,
-      at_next _ c.shared_slice_known-1.given h.n _ row.result small h.invariant.1 row.ensures _ c.place_after-place.ensures,
+      at_next _ c.type_inv.page h.n _ row.result small h.invariant.1 row.ensures _ c.place_after-place.ensures,
       length-set h.out h.n w.result ∙ h.invariant.2,
       filled_more h.out _ _ _ h.n w.result (omega (arith, h.invariant.2, c.row_total-total.ensures.1)) h.invariant.3
-          (to-come _ _ _ w.result (rest_step _ c.shared_slice_known-1.given h.n _ row.result small h.invariant.1 row.ensures total _ (omega arith)
+          (to-come _ _ _ w.result (rest_step _ c.type_inv.page h.n _ row.result small h.invariant.1 row.ensures total _ (omega arith)
           c.place_after-place.ensures) w.ensures),
       kept_more h.out _ h.n w.result h.invariant.4,
     )

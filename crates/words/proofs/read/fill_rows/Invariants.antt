@@ -1,16 +1,11 @@
 -- `read::fill_rows` stores one row after the other. What is kept: the row in hand stands at `place`, and the words stored, with those of the rows
 -- to come, are all of them; the words after these are as they were. That the array has 32 words is known where it is lent as a slice. Assumes nothing.
-use mathlib.Core.Path.{◌≡◌, refl, ap, ◌∙◌}
-use mathlib.Core.List.{List, ◌∷◌, ◌++◌, map}
-use Prim.Native.Nat.{ℕ, ◌-◌, ◌≤◌, ◌<◌}
-use native.Mathlib.Nat.{sub-zero}
-use native.Mathlib.Omega.{arith}
-use lib.ListN.{length, take, drop, length-set}
-use Rattle.lpod.specs.Rule.{Rule}
+use mathlib.Core.Path.{◌≡◌}
+use mathlib.Core.List.{◌++◌, map}
+use Prim.Native.Nat.{◌-◌, ◌≤◌}
+use lib.ListN.{length, take, drop}
 use Rattle.page.specs.Program.{rows_from, literal_place}
-use Rattle.page.proofs.RowSteps.{at_first, at_next, rest_step, rest_none}
-use Rattle.words.specs.Coded.{row_word, row_total, row_words}
-use Rattle.words.proofs.Filled.{filled_more, filled_all, kept_more, kept_rest}
+use Rattle.words.specs.Coded.{row_word, row_words}
 use Rattle.words.proofs.read.fill_rows.Given as goal
 
 abbrev pub invariant-loop-n : goal.invariant-loop-n

@@ -1,11 +1,10 @@
 -- `read::packed` goes from the last literal to the first. What is kept: the number so far is that of the literals passed. Assumes nothing.
 use mathlib.Core.Path.{◌≡◌, ◌∙◌}
-use Prim.Native.Nat.{ℕ, ◌+◌, ◌-◌, ◌%◌, ◌≤◌}
+use Prim.Native.Nat.{ℕ, ◌+◌, ◌-◌, ◌≤◌}
 use native.Mathlib.Nat.{add-zero, sub-zero}
 use native.Mathlib.Omega.{arith}
 use Rattle.page.specs.Program.{literals}
 use Rattle.page.proofs.Scan.{literals_step, literals_none}
-use Rattle.words.specs.Coded as means
 use Rattle.words.proofs.Digits.{packed_step, packed_none}
 use Rattle.words.proofs.read.packed.Goals as goal
 

@@ -1,6 +1,5 @@
 -- `read::pair_total`: the smaller of the page's pair count and 8. Assumes nothing.
 use native.Mathlib.Omega.{arith}
-use borrow.Author.Rules.{rules}
 use borrow.Author.Tests.{lt-ltb, le-ltb}
 use Rattle.words.specs.Coded.{pair_total, at_most}
 use Rattle.words.proofs.read.pair_total.Goals as goal

@@ -1,5 +1,4 @@
 -- `read::pair_word`: two bytes, the first one lower. Assumes nothing.
-use borrow.Author.Rules.{rules}
 use Rattle.page.specs.Fields.{word_at}
 use Rattle.words.proofs.read.pair_word.Goals as goal
 

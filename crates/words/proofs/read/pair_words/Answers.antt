@@ -1,11 +1,11 @@
 -- `read::pair_words` stores one pair after the other. What is kept: the words stored, with those of the pairs to come, are all of them.
 -- Assumes nothing.
 use mathlib.Core.Path.{◌≡◌, refl, ap, ◌∙◌}
-use mathlib.Core.List.{List, ◌∷◌, ◌++◌, map}
-use Prim.Native.Nat.{ℕ, ◌+◌, ◌*◌, ◌-◌, ◌^◌, ◌≤◌}
+use mathlib.Core.List.{List, ◌∷◌, map}
+use Prim.Native.Nat.{ℕ, ◌+◌, ◌-◌}
 use native.Mathlib.Nat.{sub-zero}
 use native.Mathlib.Omega.{arith}
-use lib.ListN.{length, take, drop, length-set}
+use lib.ListN.{length-set}
 use Rattle.page.specs.Fields.{word_at}
 use Rattle.page.specs.Program.{pairs_from}
 use Rattle.page.proofs.Scan.{pairs_step, pairs_none}

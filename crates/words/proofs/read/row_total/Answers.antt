@@ -1,6 +1,5 @@
 -- `read::row_total`: the smaller of the page's row count and 32. Assumes nothing.
 use native.Mathlib.Omega.{arith}
-use borrow.Author.Rules.{rules}
 use borrow.Author.Tests.{lt-ltb, le-ltb}
 use Rattle.words.specs.Coded.{row_total, at_most}
 use Rattle.words.proofs.read.row_total.Goals as goal

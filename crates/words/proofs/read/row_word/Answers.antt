@@ -1,5 +1,4 @@
 -- `read::row_word`: the two bodies as sets, the number of head atoms and the head in 24 bits, each in its own part of the word. Assumes nothing.
-use borrow.Author.Rules.{rules}
 use Rattle.page.specs.Rows.{rule_of}
 use Rattle.page.proofs.Places.{length_literals}
 use Rattle.words.specs.Coded.{row_word}

@@ -1,12 +1,10 @@
 -- `read::set_of` adds one literal after the other. What is kept: the set so far, with the literals to come, is the set of all of them.
 -- Assumes nothing.
-use mathlib.Core.Path.{◌≡◌, refl, sym, ◌∙◌}
-use Prim.Native.Nat.{◌+◌, ◌-◌}
+use mathlib.Core.Path.{refl, sym, ◌∙◌}
+use Prim.Native.Nat.{◌-◌}
 use native.Mathlib.Omega.{arith}
-use Rattle.atoms.specs.Atoms.{union}
 use Rattle.page.specs.Program.{literals}
 use Rattle.page.proofs.Scan.{literals_step, literals_none}
-use Rattle.words.specs.Coded.{atoms_of}
 use Rattle.words.proofs.Sets.{atoms_first, atoms_step, atoms_none}
 use Rattle.words.proofs.read.set_of.Goals as goal
 

@@ -1,5 +1,4 @@
 -- `row::body_holds` makes the two tests that the definition names. Assumes nothing.
-use borrow.Author.Rules.{rules}
 use Rattle.lpod.specs.Satisfied.{body_holds, none_in}
 use Rattle.words.proofs.row.body_holds.Goals as goal
 

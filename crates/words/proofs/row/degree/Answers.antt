@@ -1,5 +1,4 @@
 -- `row::degree`: the place in the head where the body holds, else 1. Assumes nothing.
-use borrow.Author.Rules.{rules}
 use Rattle.lpod.specs.Degree.{degree}
 use Rattle.words.proofs.row.degree.Goals as goal
 

@@ -2,7 +2,6 @@
 use mathlib.Core.Path.{◌≡◌, sym, ◌∙◌}
 use Prim.Native.Nat.{◌/◌, ◌%◌}
 use native.Mathlib.Omega.{arith}
-use borrow.Author.Rules.{rules}
 use Rattle.words.specs.Coded.{rule_in, head_length, head_digits}
 use Rattle.words.proofs.Places.{digits_at, digits_past, digits_high, digits_length}
 use Rattle.words.proofs.row.head_atom.Goals as goal

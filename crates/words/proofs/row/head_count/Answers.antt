@@ -1,6 +1,5 @@
 -- `row::head_count` reads the number of head atoms off the word. Assumes nothing.
 use mathlib.Core.Path.{sym}
-use borrow.Author.Rules.{rules}
 use Rattle.words.specs.Coded.{rule_in, head_length}
 use Rattle.words.proofs.Places.{digits_length}
 use Rattle.words.proofs.row.head_count.Goals as goal

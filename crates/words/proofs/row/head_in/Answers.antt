@@ -3,7 +3,6 @@ use mathlib.Core.Path.{sym, ap, ◌∙◌}
 use mathlib.Core.Bool.{not}
 use Prim.Native.Nat.{ℕ}
 use lib.Dec.{eqb}
-use borrow.Author.Rules.{rules}
 use Rattle.words.specs.Coded.{rule_in}
 use Rattle.words.proofs.Places.{some_place}
 use Rattle.words.proofs.row.head_in.Goals as goal

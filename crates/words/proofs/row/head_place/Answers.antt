@@ -1,10 +1,9 @@
 -- `row::head_place` goes through the head's digits and stops at the first that is in s. What is kept: the place for all of them is the place for
 -- those that are left, counted on from the ones passed. Assumes nothing.
 use mathlib.Core.Path.{◌≡◌, sym, ◌∙◌}
-use Prim.Native.Nat.{◌+◌, ◌≤◌, ◌-◌, ◌/◌, ◌%◌}
+use Prim.Native.Nat.{◌+◌, ◌-◌, ◌/◌, ◌%◌}
 use native.Mathlib.Omega.{arith}
-use Rattle.lpod.specs.Degree.{place}
-use Rattle.words.specs.Coded.{rule_in, head_length, head_digits, digits}
+use Rattle.words.specs.Coded.{rule_in, head_length, head_digits}
 use Rattle.words.proofs.Places.{place_go, place_stop, place_none, digits_step, digits_none, digits_length}
 use Rattle.words.proofs.row.head_place.Goals as goal
 

@@ -4,7 +4,6 @@ use mathlib.Core.Bool.{not}
 use Prim.Native.Nat.{ℕ, ◌/◌, ◌%◌}
 use native.Mathlib.Omega.{arith}
 use lib.Dec.{eqb}
-use borrow.Author.Rules.{rules}
 use Rattle.words.specs.Coded.{rule_in, neg_set}
 use Rattle.words.proofs.Bodies.{body_some}
 use Rattle.words.proofs.row.neg_in.Goals as goal

@@ -2,7 +2,6 @@
 use mathlib.Core.Path.{sym, ◌∙◌}
 use Prim.Native.Nat.{◌%◌}
 use native.Mathlib.Omega.{arith}
-use borrow.Author.Rules.{rules}
 use Rattle.words.specs.Coded.{rule_in, pos_set}
 use Rattle.words.proofs.Bodies.{body_all}
 use Rattle.words.proofs.row.pos_in.Goals as goal

@@ -1,5 +1,4 @@
 -- `row::satisfied`: where the body holds the head decides, and else the row is satisfied. Assumes nothing.
-use borrow.Author.Rules.{rules}
 use Rattle.lpod.specs.Satisfied.{satisfies}
 use Rattle.words.proofs.row.satisfied.Goals as goal
 

@@ -1,16 +1,11 @@
 -- `rows::no_pair` goes through the pairs and stops at the first that s holds. What is kept: the answer for all pairs is the answer for those that
 -- are left. Assumes nothing.
-use mathlib.Core.Path.{◌≡◌, refl, sym, ap, ◌∙◌}
-use mathlib.Core.Bool.{◌&&◌, not}
+use mathlib.Core.Path.{◌≡◌}
 use mathlib.Core.List.{map}
 use Prim.Native.Nat.{◌-◌, ◌≤◌}
-use native.Mathlib.Omega.{arith}
 use lib.ListN.{length, drop}
-use Rattle.atoms.specs.Atoms.{has}
 use Rattle.lpod.specs.Satisfied.{no_pair}
-use Rattle.page.proofs.Scan.{every_go, every_stop, every_none}
 use Rattle.words.specs.Coded.{pair_in, pairs_in}
-use Rattle.words.proofs.Rest.{rest_step, rest_none}
 use Rattle.words.proofs.rows.no_pair.Given as goal
 
 abbrev pub invariant-loop-n : goal.invariant-loop-n

@@ -1,5 +1,4 @@
 -- `rows::pair_in` looks for the one atom and then for the other. Assumes nothing.
-use borrow.Author.Rules.{rules}
 use Rattle.words.specs.Coded.{pair_in}
 use Rattle.words.proofs.rows.pair_in.Goals as goal
 

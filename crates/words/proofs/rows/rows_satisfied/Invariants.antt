@@ -1,15 +1,11 @@
 -- `rows::rows_satisfied` goes through the rows and stops at the first that s does not satisfy. What is kept: the answer for all rows is the answer
 -- for those that are left. Assumes nothing.
-use mathlib.Core.Path.{◌≡◌, refl, sym, ◌∙◌}
+use mathlib.Core.Path.{◌≡◌}
 use mathlib.Core.List.{map}
 use Prim.Native.Nat.{◌-◌, ◌≤◌}
-use native.Mathlib.Omega.{arith}
 use lib.ListN.{length, drop}
-use borrow.Author.Tests.{not-true, not-false}
-use Rattle.lpod.specs.Satisfied.{satisfies, satisfies_all}
-use Rattle.page.proofs.Scan.{every_go, every_stop, every_none}
+use Rattle.lpod.specs.Satisfied.{satisfies_all}
 use Rattle.words.specs.Coded.{rule_in, rules_in}
-use Rattle.words.proofs.Rest.{rest_step, rest_none}
 use Rattle.words.proofs.rows.rows_satisfied.Given as goal
 
 abbrev pub invariant-loop-n : goal.invariant-loop-n

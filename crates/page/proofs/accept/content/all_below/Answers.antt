@@ -1,13 +1,10 @@
 -- `all_below` answers whether every literal of its run is below the number of atoms. The run that is left to test decides
 -- what the whole run decides, since those passed are below; past the end of the page all that is left reads as 0. The measure is how many are
 -- left. Assumes nothing.
-use Prim.Native.Nat.{◌+◌, ◌-◌}
-use mathlib.Core.Path.{◌≡◌, refl, sym, ◌∙◌}
+use Prim.Native.Nat.{◌-◌}
+use mathlib.Core.Path.{refl, sym, ◌∙◌}
 use native.Mathlib.Omega.{arith}
-use borrow.Author.Rules.{rules}
 use borrow.Author.Tests.{le-ltb, lt-ltb}
-use Rattle.lpod.specs.Lists.{every}
-use Rattle.page.specs.Program.{literals}
 use Rattle.page.specs.Refusals.{is_below}
 use Rattle.page.proofs.Scan.{literals_step, literals_none, every_go, every_stop, every_none, below_past}
 use Rattle.page.proofs.accept.content.all_below.Goals as goal
@@ -22,7 +19,7 @@ returns-then-page-i c =
     sym (h.invariant.1 ∙ below_past a.page.now a.atoms h.i h.left (h.left - 1) (omega arith) c.if-page-i.true)
 
 pub overflow_cast-page : goal.overflow_cast-page
-overflow_cast-page c = omega (arith, c.shared_slice_known-1.given c.loop-left.i)
+overflow_cast-page c = omega (arith, c.type_inv.page c.loop-left.i)
 
 pub returns-then-atoms-page : goal.returns-then-atoms-page
 unfolding is_below

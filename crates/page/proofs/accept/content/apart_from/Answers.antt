@@ -1,11 +1,8 @@
 -- `apart_from` answers whether every pair of its run is apart from the given one. The pairs that are left decide what all of them
 -- decide, since those passed are apart; the measure is how many are left. Assumes nothing.
-use Prim.Native.Nat.{◌+◌, ◌*◌, ◌-◌}
-use mathlib.Core.Path.{◌≡◌, refl, sym, ◌∙◌}
+use Prim.Native.Nat.{◌-◌}
+use mathlib.Core.Path.{refl, sym, ◌∙◌}
 use native.Mathlib.Omega.{arith}
-use borrow.Author.Tests.{not-true, not-false}
-use Rattle.lpod.specs.Lists.{every}
-use Rattle.page.specs.Program.{pairs_from}
 use Rattle.page.specs.Refusals.{apart}
 use Rattle.page.proofs.Scan.{pairs_step, pairs_none, every_go, every_stop, every_none}
 use Rattle.page.proofs.accept.content.apart_from.Goals as goal

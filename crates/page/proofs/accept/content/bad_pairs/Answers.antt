@@ -1,6 +1,5 @@
 -- `bad_pairs` answers what `bad_pairs` says: first members are every second byte, and the three demands may be tested in any order.
 -- Assumes nothing.
-use borrow.Author.Rules.{rules}
 use Rattle.lpod.specs.Lists.{every}
 use Rattle.page.specs.Fields.{pairs_at, pair_count}
 use Rattle.page.specs.Program.{pairs_of}

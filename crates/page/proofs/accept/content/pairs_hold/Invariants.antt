@@ -1,13 +1,9 @@
 -- `pairs_hold` answers whether the pairs of its run are in order and share no atom. The pairs that are left decide what all of them
 -- decide, since those passed are in order and apart from all later ones; the measure is how many are left. Assumes nothing.
-use Prim.Native.Nat.{◌+◌, ◌*◌, ◌-◌}
-use mathlib.Core.Path.{◌≡◌, refl, sym, ◌∙◌}
-use native.Mathlib.Omega.{arith}
-use borrow.Author.Tests.{not-true, not-false, le-ltb, lt-ltb}
+use Prim.Native.Nat.{◌+◌, ◌*◌}
+use mathlib.Core.Path.{◌≡◌}
 use Rattle.page.specs.Program.{pairs_from}
-use Rattle.page.specs.Refusals.{in_order}
 use Rattle.page.specs.Scan.{pairs_hold}
-use Rattle.page.proofs.Scan.{pairs_step, pairs_none, hold_crossed, hold_shared, hold_go, hold_none}
 use Rattle.page.proofs.accept.content.pairs_hold.Given as goal
 
 abbrev pub invariant-loop-left : goal.invariant-loop-left

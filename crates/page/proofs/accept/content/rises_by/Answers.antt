@@ -1,10 +1,8 @@
 -- `rises_by` answers whether the bytes it steps over rise strictly. The bytes that are left decide what all of them decide, since
 -- each one passed lies below its neighbour; the measure is how many are left. Assumes nothing.
-use Prim.Native.Nat.{◌+◌, ◌*◌, ◌-◌, ◌≤◌}
-use mathlib.Core.Path.{◌≡◌, refl, sym, ◌∙◌}
+use Prim.Native.Nat.{◌-◌}
+use mathlib.Core.Path.{refl, sym, ◌∙◌}
 use native.Mathlib.Omega.{arith}
-use Rattle.page.specs.Refusals.{rises}
-use Rattle.page.specs.Scan.{spaced}
 use Rattle.page.proofs.Scan.{rises_go, rises_stop, rises_end}
 use Rattle.page.proofs.accept.content.rises_by.Goals as goal
 

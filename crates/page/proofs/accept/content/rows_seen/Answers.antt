@@ -1,16 +1,15 @@
 -- `rows_seen` answers what `bad_counts` and `unsorted` of the definitions say. What was seen of the rows passed, and the rows that are left,
 -- decide together what all rows decide; `place` is where the next row's literals start, so in the end where the last row's literals stop.
 -- The measure is how many rows are left. Assumes nothing.
-use Prim.Native.Nat.{ℕ, ◌-◌, ◌+◌, ◌≤◌}
+use Prim.Native.Nat.{ℕ, ◌-◌, ◌+◌}
 use mathlib.Core.Path.{◌≡◌, refl, sym, ap, ◌∙◌}
 use mathlib.Core.Bool.{Bool, ◌&&◌, not}
 use mathlib.Core.List.{List}
 use native.Mathlib.Nat.{sub-zero}
 use native.Mathlib.Omega.{arith}
 use lib.Dec.{leb, eqb}
-use Rattle.lpod.specs.Lists.{every, below, numbers}
-use Rattle.page.specs.Fields.{row_count, spare_byte}
-use Rattle.page.specs.Program.{rows_from, rows_of, literal_place}
+use Rattle.page.specs.Fields.{spare_byte}
+use Rattle.page.specs.Program.{rows_of}
 use Rattle.page.specs.Refusals.{bad_counts, row_fits, unsorted, bodies_rise}
 use Rattle.page.specs.Rows.{row_from}
 use Rattle.page.specs.declared.rows.Row.{Row}
@@ -39,7 +38,7 @@ loop-r-preserved c =
     let h = c.loop-r in
     let total = c.row_count-total.result in
     let page = c.args.page.now in
-    let bytes = c.shared_slice_known-1.given in
+    let bytes = c.type_inv.page in
     let fits = fits-row page h.r h.place _ _ row.ensures c.spare_byte.ensures _ c.row_fits-fit.ensures in (
       omega arith,
       at_next _ bytes h.r _ row.result (omega arith) h.invariant.1 row.ensures _ c.place_after-place.ensures,

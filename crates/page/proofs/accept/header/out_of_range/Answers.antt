@@ -1,5 +1,4 @@
 -- `out_of_range` tests the four counts of the header, as `out_of_range` does. Assumes nothing.
-use borrow.Author.Rules.{rules}
 use Rattle.page.specs.Refusals.{out_of_range}
 use Rattle.page.proofs.accept.header.out_of_range.Goals as goal
 
