@@ -5,6 +5,7 @@ use crate::say;
 use page::reader;
 use page::reader::Step;
 use routes::{here_there, reduct, split};
+use std::io;
 
 // What the three tests say of one set: whether all are accepted and agree, and whether the set is an answer set.
 #[derive(Clone, Copy)]
@@ -14,40 +15,40 @@ struct Three {
 }
 
 // One set by the reduct.
-pub fn reduct(page: &[u8], flags: u16, set: u16) {
+pub fn reduct(rt: &impl Print, page: &[u8], flags: u16, set: u16) -> io::Result<()> {
     let r = reduct::reduct_test(page, flags, set);
-    say::with(b"  reduct test of ", set as u64);
-    say::with(b": number ", r.no as u64);
-    say::verdict(b", ", r.yes);
-    say::words(b"\n");
+    say::with(rt, b"  reduct test of ", set as u64)?;
+    say::with(rt, b": number ", r.no as u64)?;
+    say::verdict(rt, b", ", r.yes)?;
+    say::words(rt, b"\n")
 }
 
 // How many rounds add something on the way to one set.
-pub fn rounds(page: &[u8], flags: u16, set: u16) {
+pub fn rounds(rt: &impl Print, page: &[u8], flags: u16, set: u16) -> io::Result<()> {
     let r = reduct::rounds(page, flags, set);
-    say::with(b"  rounds to ", set as u64);
-    say::with(b": number ", r.no as u64);
-    say::with(b", count ", r.count as u64);
-    say::words(b"\n");
+    say::with(rt, b"  rounds to ", set as u64)?;
+    say::with(rt, b": number ", r.no as u64)?;
+    say::with(rt, b", count ", r.count as u64)?;
+    say::words(rt, b"\n")
 }
 
 // One set by here-and-there.
-pub fn here_there(page: &[u8], flags: u16, set: u16) {
+pub fn here_there(rt: &impl Print, page: &[u8], flags: u16, set: u16) -> io::Result<()> {
     let r = here_there::here_there_test(page, flags, set);
-    say::with(b"  here-and-there test of ", set as u64);
-    say::with(b": number ", r.no as u64);
-    say::verdict(b", ", r.yes);
-    say::words(b"\n");
+    say::with(rt, b"  here-and-there test of ", set as u64)?;
+    say::with(rt, b": number ", r.no as u64)?;
+    say::verdict(rt, b", ", r.yes)?;
+    say::words(rt, b"\n")
 }
 
 // One set by split programs.
-pub fn split(page: &[u8], flags: u16, set: u16) {
+pub fn split(rt: &impl Print, page: &[u8], flags: u16, set: u16) -> io::Result<()> {
     let r = split::split_test(page, flags, set);
-    say::with(b"  split test of ", set as u64);
-    say::with(b": number ", r.no as u64);
-    say::verdict(b", ", r.yes);
-    say::with(b", count ", r.count as u64);
-    say::words(b"\n");
+    say::with(rt, b"  split test of ", set as u64)?;
+    say::with(rt, b": number ", r.no as u64)?;
+    say::verdict(rt, b", ", r.yes)?;
+    say::with(rt, b", count ", r.count as u64)?;
+    say::words(rt, b"\n")
 }
 
 // One set by all three.
@@ -93,62 +94,69 @@ fn agreement(page: &[u8], flags: u16, below: u16) -> Tally {
 }
 
 // All sets below a number, by all three tests.
-pub fn all_three(page: &[u8], flags: u16, below: u16) {
+pub fn all_three(rt: &impl Print, page: &[u8], flags: u16, below: u16) -> io::Result<()> {
     let r = agreement(page, flags, below);
-    say::with(b"  three tests of ", below as u64);
-    say::with(b" sets: agreed ", r.agreed as u64);
-    say::with(b", yes ", r.answers as u64);
-    say::words(b"\n");
+    say::with(rt, b"  three tests of ", below as u64)?;
+    say::with(rt, b" sets: agreed ", r.agreed as u64)?;
+    say::with(rt, b", yes ", r.answers as u64)?;
+    say::words(rt, b"\n")
 }
 
 // Two sets compared.
-pub fn compare(page: &[u8], flags: u16, first: u16, second: u16) {
+pub fn compare(
+    rt: &impl Print,
+    page: &[u8],
+    flags: u16,
+    first: u16,
+    second: u16,
+) -> io::Result<()> {
     let r = engine::compare::compare(page, flags, first, second);
-    say::with(b"  compare ", first as u64);
-    say::with(b" with ", second as u64);
-    say::with(b": number ", r.no as u64);
-    say::words(b", side ");
-    say::side(r.side);
-    say::words(b"\n");
+    say::with(rt, b"  compare ", first as u64)?;
+    say::with(rt, b" with ", second as u64)?;
+    say::with(rt, b": number ", r.no as u64)?;
+    say::words(rt, b", side ")?;
+    say::side(rt, r.side)?;
+    say::words(rt, b"\n")
 }
 
 // The pick.
-pub fn pick(page: &[u8], flags: u16) {
+pub fn pick(rt: &impl Print, page: &[u8], flags: u16) -> io::Result<()> {
     let r = engine::pick::pick(page, flags);
-    say::with(b"  pick: number ", r.no as u64);
-    say::with(b", set ", r.set as u64);
-    say::words(b"\n");
+    say::with(rt, b"  pick: number ", r.no as u64)?;
+    say::with(rt, b", set ", r.set as u64)?;
+    say::words(rt, b"\n")
 }
 
 // What the row reader finds at a number.
-fn row(page: &[u8], n: u16) {
-    say::with(b"  row ", n as u64);
+fn row(rt: &impl Print, page: &[u8], n: u16) -> io::Result<()> {
+    say::with(rt, b"  row ", n as u64)?;
     match reader::row_at(page, n) {
         Step::Row(row) => {
-            say::with(b": head ", row.head as u64);
-            say::with(b", positive ", row.pos as u64);
-            say::with(b", negative ", row.neg as u64);
-            say::with(b", first literal at ", row.place as u64);
+            say::with(rt, b": head ", row.head as u64)?;
+            say::with(rt, b", positive ", row.pos as u64)?;
+            say::with(rt, b", negative ", row.neg as u64)?;
+            say::with(rt, b", first literal at ", row.place as u64)?;
         }
-        Step::Past => say::words(b": past"),
+        Step::Past => say::words(rt, b": past")?,
     }
-    say::words(b"\n");
+    say::words(rt, b"\n")
 }
 
 // The rows below a number, one after the other.
-pub fn rows(page: &[u8], below: u16) {
+pub fn rows(rt: &impl Print, page: &[u8], below: u16) -> io::Result<()> {
     let mut n = 0;
     while n < below {
-        row(page, n);
+        row(rt, page, n)?;
         n += 1;
     }
+    Ok(())
 }
 
 // The panel letter of a refusal number.
-pub fn letter(number: u16) {
+pub fn letter(rt: &impl Print, number: u16) -> io::Result<()> {
     let text = [b'"', page::letter::letter(number), b'"'];
-    say::with(b"  letter of ", number as u64);
-    say::words(b": ");
-    say::words(&text);
-    say::words(b"\n");
+    say::with(rt, b"  letter of ", number as u64)?;
+    say::words(rt, b": ")?;
+    say::words(rt, &text)?;
+    say::words(rt, b"\n")
 }

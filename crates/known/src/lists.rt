@@ -3,6 +3,7 @@
 use crate::say;
 use engine::degrees::Graded;
 use engine::list::Listed;
+use std::io;
 
 // Room for more sets than a page can have; each entry is 4660.
 fn room() -> [u16; 65536] {
@@ -39,25 +40,24 @@ fn kept_from(sets: &[u16], from: u32) -> u32 {
 }
 
 // A list of sets: all of a short one; of a long one its ends and its sum.
-fn say_sets(sets: &[u16], count: u32) {
+fn say_sets(rt: &impl Print, sets: &[u16], count: u32) -> io::Result<()> {
     if count <= 8 {
-        say::entries(sets, 0, count);
-        return;
+        return say::entries(rt, sets, 0, count);
     }
-    say::entries(sets, 0, 4);
-    say::words(b" ..");
-    say::entries(sets, count - 4, count);
-    say::with(b", sum ", sum_to(sets, count) as u64);
+    say::entries(rt, sets, 0, 4)?;
+    say::words(rt, b" ..")?;
+    say::entries(rt, sets, count - 4, count)?;
+    say::with(rt, b", sum ", sum_to(sets, count) as u64)
 }
 
 // What a call that lists sets answered, and what it stored.
-fn say_listed(r: Listed, sets: &[u16]) {
-    say::with(b": number ", r.no as u64);
-    say::with(b", count ", r.count as u64);
-    say::words(b", sets");
-    say_sets(sets, r.count);
-    say::with(b", kept ", kept_from(sets, r.count) as u64);
-    say::words(b"\n");
+fn say_listed(rt: &impl Print, r: Listed, sets: &[u16]) -> io::Result<()> {
+    say::with(rt, b": number ", r.no as u64)?;
+    say::with(rt, b", count ", r.count as u64)?;
+    say::words(rt, b", sets")?;
+    say_sets(rt, sets, r.count)?;
+    say::with(rt, b", kept ", kept_from(sets, r.count) as u64)?;
+    say::words(rt, b"\n")
 }
 
 // All answer sets, or the best of them.
@@ -78,15 +78,15 @@ fn ask_first(page: &[u8], flags: u16, best: bool, n: u16, out: &mut [u16]) -> Li
 }
 
 // All answer sets, or the best of them, into a slice of n entries.
-pub fn sets(page: &[u8], flags: u16, best: bool, n: u16) {
+pub fn sets(rt: &impl Print, page: &[u8], flags: u16, best: bool, n: u16) -> io::Result<()> {
     let mut out = room();
     let r = ask_first(page, flags, best, n, &mut out);
     if best {
-        say::with(b"  best into ", n as u64);
+        say::with(rt, b"  best into ", n as u64)?;
     } else {
-        say::with(b"  list into ", n as u64);
+        say::with(rt, b"  list into ", n as u64)?;
     }
-    say_listed(r, &out);
+    say_listed(rt, r, &out)
 }
 
 // The degrees of a set into the first n entries of a slice.
@@ -100,14 +100,14 @@ fn grade_first(page: &[u8], flags: u16, set: u16, n: u16, out: &mut [u8]) -> Gra
 
 // The degrees of a set, into a slice of n entries. There is room for two more than a page can have rows; each entry is 9, which no degree
 // is, before the call.
-pub fn degrees(page: &[u8], flags: u16, set: u16, n: u16) {
+pub fn degrees(rt: &impl Print, page: &[u8], flags: u16, set: u16, n: u16) -> io::Result<()> {
     let mut out = [9u8; 34];
     let r = grade_first(page, flags, set, n, &mut out);
-    say::with(b"  degrees of ", set as u64);
-    say::with(b" into ", n as u64);
-    say::with(b": number ", r.no as u64);
-    say::with(b", count ", r.count as u64);
-    say::words(b", memory ");
-    say::bytes(&out);
-    say::words(b"\n");
+    say::with(rt, b"  degrees of ", set as u64)?;
+    say::with(rt, b" into ", n as u64)?;
+    say::with(rt, b": number ", r.no as u64)?;
+    say::with(rt, b", count ", r.count as u64)?;
+    say::words(rt, b", memory ")?;
+    say::bytes(rt, &out)?;
+    say::words(rt, b"\n")
 }

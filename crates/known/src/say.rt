@@ -1,37 +1,36 @@
 // What is printed: words, numbers, and what stands in lent memory.
-use libc::STDOUT_FILENO;
 use page::fields;
+use std::io;
 
-pub fn words(text: &[u8]) {
-    io::write_all(STDOUT_FILENO, text);
+pub fn words(rt: &impl Print, text: &[u8]) -> io::Result<()> {
+    rt.write_all(text)
 }
 
 // Words and a number after them.
-pub fn with(text: &[u8], number: u64) {
-    words(text);
-    io::print_decimal(STDOUT_FILENO, number);
+pub fn with(rt: &impl Print, text: &[u8], number: u64) -> io::Result<()> {
+    words(rt, text)?;
+    rt.print(number)
 }
 
 // Words, and yes or no after them.
-pub fn verdict(text: &[u8], yes: bool) {
-    words(text);
+pub fn verdict(rt: &impl Print, text: &[u8], yes: bool) -> io::Result<()> {
+    words(rt, text)?;
     if yes {
-        words(b"yes");
-        return;
+        return words(rt, b"yes");
     }
-    words(b"no");
+    words(rt, b"no")
 }
 
 // A comparison: +1, 0 or -1.
-pub fn side(side: i8) {
+pub fn side(rt: &impl Print, side: i8) -> io::Result<()> {
     if side == 1 {
-        words(b"+1");
+        words(rt, b"+1")
     } else if side == -1 {
-        words(b"-1");
+        words(rt, b"-1")
     } else if side == 0 {
-        words(b"0");
+        words(rt, b"0")
     } else {
-        words(b"no side");
+        words(rt, b"no side")
     }
 }
 
@@ -45,19 +44,21 @@ pub fn entry(list: &[u16], k: u32) -> u16 {
 }
 
 // The entries of a list from one place to another, each after a space.
-pub fn entries(list: &[u16], from: u32, to: u32) {
+pub fn entries(rt: &impl Print, list: &[u16], from: u32, to: u32) -> io::Result<()> {
     let mut k = from;
     while k < to {
-        with(b" ", entry(list, k) as u64);
+        with(rt, b" ", entry(list, k) as u64)?;
         k += 1;
     }
+    Ok(())
 }
 
 // All bytes of a slice, side by side.
-pub fn bytes(list: &[u8]) {
+pub fn bytes(rt: &impl Print, list: &[u8]) -> io::Result<()> {
     let mut k = 0;
     while k < list.len() {
-        with(b"", fields::byte_at(list, k) as u64);
+        with(rt, b"", fields::byte_at(list, k) as u64)?;
         k += 1;
     }
+    Ok(())
 }

@@ -6,8 +6,8 @@ ghost use Rattle.std.specs.Prelude.{◌≡◌, ◌≤◌, length, take};
 ghost use Rattle.showrun.specs.Says as means;
 
 use display::{Displayed, Readings, Shown, reading};
-use libc::{STDIN_FILENO, STDOUT_FILENO};
 use page::fields;
+use std::io;
 
 // The reading whose bits are the words at two places, the low one first.
 fn reading_at(input: &[u8], low: u8, high: u8) -> f32
@@ -48,28 +48,29 @@ fn name_of(shown: Shown) -> Text
     }
 }
 
-fn say_name(shown: Shown) {
+fn say_name(rt: &impl Print, shown: Shown) -> io::Result<()> {
     let name = name_of(shown);
     let bytes = name.bytes;
     let length = name.length;
-    io::write_all(STDOUT_FILENO, &bytes[..length]);
+    rt.write_all(&bytes[..length])
 }
 
 // One line: the name, and the bits of the reading where there is one.
-fn say_shown(shown: Shown) {
-    say_name(shown);
+fn say_shown(rt: &impl Print, shown: Shown) -> io::Result<()> {
+    say_name(rt, shown)?;
     let x = display::reading_of(shown);
     if x == x {
-        io::write_all(STDOUT_FILENO, b" ");
-        io::print_hex(STDOUT_FILENO, reading::bits_of(x) as u64, 8);
+        let bits = reading::bits_of(x);
+        rt.write_all(b" ")?;
+        print!(rt; "{bits:08x}")?;
     }
-    io::write_all(STDOUT_FILENO, b"\n");
+    rt.write_all(b"\n")
 }
 
-fn say_refused(no: u16) {
-    io::write_all(STDOUT_FILENO, b"refused ");
-    io::print_decimal(STDOUT_FILENO, no as u64);
-    io::write_all(STDOUT_FILENO, b"\n");
+fn say_refused(rt: &impl Print, no: u16) -> io::Result<()> {
+    rt.write_all(b"refused ")?;
+    rt.print(no)?;
+    rt.write_all(b"\n")
 }
 
 // What the display says of an input: readings, flag word and page. One that is too short for a page to begin is refused by 1.
@@ -89,19 +90,18 @@ fn said(input: &[u8]) -> Displayed
     display::display(Readings { live, second, held }, &input[14..], flags)
 }
 
-fn say(said: Displayed) {
+fn say(rt: &impl Print, said: Displayed) -> io::Result<()> {
     let shown = said.shown;
     if said.no != 0 {
-        say_refused(said.no);
-        return;
+        return say_refused(rt, said.no);
     }
-    say_shown(shown);
+    say_shown(rt, shown)
 }
 
 // The buffer takes 4,096 bytes, and what comes after them is not read. A page has at most 866, so a longer input is refused by 2, 3 or 4, and which of
 // these it is can be seen in its header.
-fn main() {
-    let mut input = io::buffer();
-    let got = io::read_full(STDIN_FILENO, &mut input);
-    say(said(&input[..got]));
+fn main(rt: HostRuntime) -> io::Result<()> {
+    let mut input = [0u8; 4096];
+    let got = intake::read_full(&mut rt.stdin(), &mut input)?;
+    say(&rt, said(&input[..got]))
 }
