@@ -112,22 +112,22 @@ keep() {
     trap 'exit 130' HUP INT TERM
 }
 
-# ask PROGRAM: proves and builds the program where that is still to be done, runs it on standard input, keeps what it prints in a file, `out`, and puts
-# the last line into `last`. `top` is the repository's top.
+# ask PROGRAM: proves and builds the program where that is still to be done, sees that it prints its stored output, runs it on standard input, keeps
+# what it prints in a file, `out`, and puts the last line into `last`. `top` is the repository's top.
 ask() {
     guide=$(rt doc) || broken "rt, the prover, is not on the path"
-    kit=$(dirname "$(dirname "$guide")")
-    libs=$kit/toolchain/lib
-    # the program is for x86-64; for another processor the kit has an emulator
-    emulator=$kit/on/$(uname -m)/toolchain/bin/qemu-x86_64
+    libs=$(dirname "$guide")/toolchain/lib
+    # the program is for x86-64; for another processor a kit may have an emulator
+    emulator=$(dirname "$guide")/on/$(uname -m)/toolchain/bin/qemu-x86_64
     [ -x "$emulator" ] || emulator=
 
     out=$kept/$1
-    (CDPATH='' cd -- "$top" && rt check "$1") >"$out" 2>&1 </dev/null || {
-        cat "$out" >&2
-        broken "the program is not proved"
+    (CDPATH='' cd -- "$top/crates/$1" && rt run <stdin) >"$out" 2>"$kept/said" || {
+        cat "$kept/said" >&2
+        broken "the program is not proved, or breaks off on its stored input"
     }
-    ${emulator:+"$emulator"} "$libs/ld-linux-x86-64.so.2" --library-path "$libs" "$top/target/bin/$1" >"$out" || broken "the program broke off"
+    cmp -s "$out" "$top/crates/$1/stdout" || broken "$1 does not print its stored output, crates/$1/stdout"
+    ${emulator:+"$emulator"} "$libs/ld-linux-x86-64.so.2" --library-path "$libs" "$top/crates/$1/out/$1" >"$out" || broken "the program broke off"
     last=$(tail -n 1 "$out")
 }
 

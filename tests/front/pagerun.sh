@@ -131,12 +131,21 @@ verdict 'no round to the set of a page without rows'
 }
 read -r passed failed <"$made/so-far"
 
-# a planted difference: in a copy of the repository the program's stored output has another pick. What is proved is taken along.
-mkdir -p "$made/copy/target"
-cp -R crates.txt crates front.sh pagerun examples "$made/copy/"
-cp -R target/rlib target/stamp "$made/copy/target/"
+# a planted difference: in a copy of the repository the program's stored output has another pick. What is proved is taken along: the libraries, and
+# the programs with their stamps.
+mkdir -p "$made/copy/crates"
+cp -R crates.txt front.sh pagerun examples "$made/copy/"
+for crate in crates/*; do
+    mkdir -p "$made/copy/$crate/out"
+    for part in "$crate"/*; do
+        [ "$part" = "$crate/out" ] || cp -R "$part" "$made/copy/$crate/"
+    done
+    for part in rlib pagerun pagerun.stamp roundrun roundrun.stamp; do
+        [ ! -e "$crate/out/$part" ] || cp -R "$crate/out/$part" "$made/copy/$crate/out/"
+    done
+done
 sed 's/pick 1/pick 2/' crates/pagerun/stdout >"$made/copy/crates/pagerun/stdout"
 (CDPATH='' cd -- "$made/copy" && ./pagerun examples/two.page) >"$made/out" 2>"$made/err"
 status=$?
-[ "$status" -eq 3 ] && [ ! -s "$made/out" ] && grep -q "rt: FAILED: pagerun" "$made/err"
+[ "$status" -eq 3 ] && [ ! -s "$made/out" ] && grep -q "pagerun does not print its stored output" "$made/err"
 verdict 'a program that does not print its stored output is shown to fail, and is not used'

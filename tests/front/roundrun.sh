@@ -94,7 +94,7 @@ input() {
 
 # ranges WHAT PAGE FLAGS FIRST LAST: the program on the input, and the lines of the definitions
 ranges() {
-    run target/bin/roundrun <"$made/input" >"$made/out"
+    run crates/roundrun/out/roundrun <"$made/input" >"$made/out"
     status=$?
     python3 tests/known/meaning.py "$2" "$3" "$4" "$5" >"$made/want"
     [ "$status" -eq 0 ] && cmp -s "$made/out" "$made/want"
@@ -138,6 +138,6 @@ for words in 'roundrun examples/steps.page 7' 'pagerun --rounds examples/steps.p
     # shellcheck disable=SC2086
     (CDPATH='' cd -- "$made/copy" && ./$words) >"$made/out" 2>"$made/err"
     status=$?
-    [ "$status" -eq 3 ] && [ ! -s "$made/out" ] && grep -q "rt: FAILED: roundrun" "$made/err"
+    [ "$status" -eq 3 ] && [ ! -s "$made/out" ] && grep -q "roundrun does not print its stored output" "$made/err"
     verdict "a count that is not the stored one is shown to fail, and is not used: ./$words"
 done

@@ -64,7 +64,7 @@ count=$(python3 tests/front/screens.py "$made/screens") || count=0
 seen=0
 first=none
 while [ "$seen" -lt "$count" ]; do
-    run target/bin/showrun <"$made/screens/$seen.in" >"$made/out"
+    run crates/showrun/out/showrun <"$made/screens/$seen.in" >"$made/out"
     status=$?
     [ "$status" -eq 0 ] && cmp -s "$made/out" "$made/screens/$seen.want" || { first=$seen && break; }
     seen=$((seen + 1))
