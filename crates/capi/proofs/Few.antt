@@ -1,6 +1,6 @@
 -- The number of sets listed fits 16 bits: an accepted page has at most 16 atoms, so at most 65,535 answer sets, and its best sets are some of
 -- those; a refused call lists none. Assumes nothing.
-use mathlib.Core.Path.{◌≡◌, sym, ap, ◌∙◌}
+use mathlib.Core.Path.{◌≡◌, ap}
 use mathlib.Core.List.{List, [], ◌∷◌}
 use Prim.Native.Nat.{ℕ, ◌≤◌}
 use native.Mathlib.Omega.{arith}

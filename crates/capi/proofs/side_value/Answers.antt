@@ -1,9 +1,9 @@
 -- `capi::side_value`: above 0 is the first, below 0 the second, 0 neither. Assumes nothing.
 use mathlib.Core.Path.{◌≡◌, refl, sym, ap, ◌∙◌}
 use mathlib.Core.Bool.{Bool, true, false}
-use Prim.Native.Nat.{ℕ, zero, suc}
+use Prim.Native.Nat.{zero, suc}
 use native.Mathlib.Omega.{arith}
-use lib.Dec.{T, ltb→lt, lt→ltb}
+use lib.Dec.{ltb→lt, lt→ltb}
 use lib.IntN.{ℤ, pos, negsuc}
 use lib.Signed.{lt_z}
 use mir.Syntax.{w8}
@@ -11,8 +11,7 @@ use mir.Val.{SFits, to_z, of_z}
 use mir.Facts.{to_z-of_z}
 use Rattle.atoms.proofs.Truth.{true_yes, false_no}
 use Rattle.capi.specs.Words.{side_value}
-use Rattle.capi.proofs.side_value.Statement.{statement}
-use Rattle.capi.proofs.side_value.Tie as tie
+use Rattle.capi.proofs.side_value.Goals as goal
 
 -- a signed byte is read back as itself
 read : (z : ℤ) → SFits w8 z → (y : ℤ) (b : Bool) → lt_z y (to_z w8 (of_z w8 z)) ≡ b → lt_z y z ≡ b
@@ -38,15 +37,12 @@ neither (pos zero) e f = refl
 neither (pos (suc n)) e f = absurd (false_no e (lt→ltb 0 (suc n) (omega arith)))
 neither (negsuc n) e f = absurd (false_no f tt)
 
-returns : tie.Need-returns
-returns c = above c.before.args.side (read c.before.args.side c.before.ranges.side (pos 0) true c.if1.true)
+pub returns-then-side-gt0 : goal.returns-then-side-gt0
+returns-then-side-gt0 c = above c.args.side (read c.args.side c.ranges.side (pos 0) true c.if-side-gt0.true)
 
-returns-2 : tie.Need-returns-2
-returns-2 c = below c.before.before.args.side (read-2 c.before.before.args.side c.before.before.ranges.side (pos 0) true c.if2.true)
+pub returns-then-side-lt0 : goal.returns-then-side-lt0
+returns-then-side-lt0 c = below c.args.side (read-2 c.args.side c.ranges.side (pos 0) true c.if-side-lt0.true)
 
-returns-3 : tie.Need-returns-3
-returns-3 c = neither c.before.before.args.side (read c.before.before.args.side c.before.before.ranges.side (pos 0) false c.before.if1.false)
-    (read-2 c.before.before.args.side c.before.before.ranges.side (pos 0) false c.if2.false)
-
-pub side-value-spec : {M : Type 1} → statement M
-side-value-spec = tie.close (tie.spec returns returns-2 returns-3)
+pub returns : goal.returns
+returns c = neither c.args.side (read c.args.side c.ranges.side (pos 0) false c.if-side-gt0.false)
+    (read-2 c.args.side c.ranges.side (pos 0) false c.if-side-lt0.false)
