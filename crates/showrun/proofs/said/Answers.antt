@@ -1,0 +1,36 @@
+-- `showrun::said` takes the input apart and asks the display. Assumes nothing.
+use mathlib.Core.Path.{◌≡◌}
+use mathlib.Core.List.{List}
+use Prim.Native.Nat.{ℕ, ◌-◌}
+use native.Mathlib.Omega.{arith}
+use lib.ListN.{length, take, drop, length-drop}
+use lib.Seq.{take_all}
+use lib.Ieee.{Float}
+use borrow.Author.Tests.{lt-ltb, le-ltb}
+use Rattle.page.specs.Fields.{word_at}
+use Rattle.display.specs.Shows.{displayed, DisplaySays}
+use Rattle.display.specs.declared.Displayed.{Displayed}
+use Rattle.showrun.specs.Says.{reading_at, readings_of, said_of}
+use Rattle.showrun.proofs.said.Goals as goal
+
+-- the display's answer for what the input was taken apart into
+module _ (input : List ℕ) where
+  asked : (d : Displayed) (x y z : Float) (page : List ℕ) (flags : ℕ) → x ≡ reading_at input 0 2 → y ≡ reading_at input 4 6 → z ≡ reading_at input 8 10 → page ≡ drop 14 input → flags ≡ word_at input 12
+      → DisplaySays (record { live = x; second = y; held = z }) page flags d → DisplaySays (readings_of input) (drop 14 input) (word_at input 12) d
+  unfolding readings_of
+  asked d x y z page flags is_live is-second is_held_lem is-page is-flags says = rw (← is_live, ← is-second, ← is_held_lem, ← is-page, ← is-flags) says
+
+  rest : take (length input - 14) (drop 14 input) ≡ drop 14 input
+  rest = take_all (length input - 14) (drop 14 input) (omega (arith, length-drop 14 input))
+
+pub returns-then-input-lt14 : goal.returns-then-input-lt14
+unfolding said_of displayed
+returns-then-input-lt14 c = rw (lt-ltb (length c.args.input.now) 14 (omega (arith, c.if-input-lt14.true)))
+
+pub returns : goal.returns
+unfolding said_of
+returns c =
+    let input = c.args.input.now in
+    rw (le-ltb (length input) 14 (omega (arith, c.if-input-lt14.false)))
+    (asked input c.display.result c.reading_at-live.result c.reading_at-second.result c.reading_at-held.result _ c.word_at-flags.result c.reading_at-live.ensures c.reading_at-second.ensures
+    c.reading_at-held.ensures (rest input) c.word_at-flags.ensures c.display.ensures)
