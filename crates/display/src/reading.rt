@@ -33,6 +33,7 @@ pub fn bits_of(x: f32) -> u32
 }
 
 // The reading that has these bits. Every pattern of a NaN gives a NaN.
+#[tactic(auto, using(crate::proofs::Finite::no_nan_pattern, crate::proofs::Finite::nan_pattern))]
 pub fn of_bits(bits: u32) -> f32
     ensures { result ≡ means.of_word bits }
 {

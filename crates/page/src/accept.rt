@@ -9,6 +9,7 @@ mod content;
 mod header;
 
 // The page's refusal number: that of the first condition that holds, 0 where the page is accepted.
+#[tactic(auto, unfolding(crate::specs::Refusals::page_no, crate::specs::Refusals::page_refusals, crate::specs::Refusals::first_that))]
 pub fn page_no(page: &[u8]) -> u16
     ensures { result ≡ refusals.page_no page.now }
 {

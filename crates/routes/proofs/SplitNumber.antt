@@ -79,6 +79,11 @@ module _ (rows : List ℕ) (n number : ℕ) (e : split_number (rules_in rows) �
       let l = le-mul_of_pos_right number (number_some (map rule_in (drop n rows))) in
       sym (lt-ltb 4096 (split_number (rules_in rows)) (omega arith))
 
+-- with one row more it is above 4,096, and so is the whole
+pub number_over : (rows : List ℕ) (n number options : ℕ) → split_number (rules_in rows) ≡ number * split_number (map rule_in (drop n rows)) → n < length rows
+    → options ≡ max 1 (length (row_at rows n).head) → 4096 < number * options → true ≡ ltb 4096 (split_number (rules_in rows))
+number_over rows n number options e h eo l = number_stop rows (n + 1) (number * options) (number_next rows n number e options h eo) l
+
 -- so it stays small enough to be multiplied once more
 pub number_small : (number options : ℕ) → number ≤ 4096 → options < 256 → number * options ≤ 4096 * 255
 number_small number options h l = mul-le-mul {m₂ = 255} h (omega arith)

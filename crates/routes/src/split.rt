@@ -31,6 +31,7 @@ fn option_count(row: u64) -> u8
 
 // There are more than 4,096 split programs. Their number is the product of the option counts; it needs up to 83 bits, so that
 // counting stops above 4,096. A flag's row has one option.
+#[tactic(auto, using(crate::proofs::SplitNumber::number_over))]
 fn too_many(rows: &[u64]) -> bool
     ensures { result ≡ ltb 4096 (split_number (rules_in rows.now)) }
 {

@@ -14,7 +14,7 @@ use Rattle.atoms.specs.Atoms.{has}
 use Rattle.lpod.specs.Lists.{some}
 use Rattle.lpod.specs.Satisfied.{some_in}
 use Rattle.lpod.specs.Degree.{place}
-use Rattle.words.specs.Coded.{digits}
+use Rattle.words.specs.Coded.{head_length, head_digits, digits, rule_in}
 
 -- ---- the place of the first atom that is in s, the first atom a being there or not
 module _ (s k : ℕ) {l rest : List ℕ} {a : ℕ} (e : l ≡ a ∷ rest) where
@@ -68,3 +68,18 @@ pub digits_high : (n h k : ℕ) → k < n → h < 2 ^ 24 → 6 ≤ k → get_or 
 digits_high n h k l b m =
     let e : 24 ≤ 4 * k = omega arith in
     digits_at n h k l ∙ ap (λ (x : ℕ). x % 16) (div-eq_of_lt (lt_of_lt_of_le b (pow_mono e)))
+
+-- ---- the head atom at k of a row in its word: a digit of the head where there is one, else 0
+module _ (row k : ℕ) where
+  pub head_at : k < length (rule_in row).head → get_or (rule_in row).head k 0 ≡ row / 1099511627776 / 2 ^ (4 * k) % 16
+  unfolding rule_in head_length head_digits
+  head_at l = digits_at (row / 4294967296 % 256) (row / 1099511627776) k (omega (arith, digits_length (row / 4294967296 % 256) (row / 1099511627776)))
+
+  pub head_past : length (rule_in row).head ≤ k → get_or (rule_in row).head k 0 ≡ 0
+  head_past l = get_or-eq_default (rule_in row).head 0 l
+
+  pub head_high : row < 2 ^ 64 → k < length (rule_in row).head → 6 ≤ k → get_or (rule_in row).head k 0 ≡ 0
+  unfolding rule_in head_length head_digits
+  head_high b l m =
+      digits_high (row / 4294967296 % 256) (row / 1099511627776) k
+      (omega (arith, digits_length (row / 4294967296 % 256) (row / 1099511627776))) (omega arith) m

@@ -50,6 +50,7 @@ pub fn head_in(row: u64, s: u16) -> bool
 }
 
 // The head atom at k, counted from 0; 0 past the head.
+#[tactic(auto, using(crate::proofs::Places::head_at, crate::proofs::Places::head_past, crate::proofs::Places::head_high))]
 pub fn head_atom(row: u64, k: u8) -> u8
     ensures { result ≡ get_or (rule_in row).head k 0 }
 {

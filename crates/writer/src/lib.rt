@@ -20,6 +20,7 @@ pub struct Written {
 }
 
 // Byte i of the header of a page with so many atoms, rows, literals and pairs.
+#[tactic(auto, using(crate::proofs::Bytes::low_byte, crate::proofs::Bytes::high_byte), unfolding(crate::specs::Content::header_fields))]
 fn header_byte(atoms: usize, rows: usize, literals: usize, pairs: usize, i: usize) -> u8
     requires { (counts_out atoms rows literals pairs ≡ false) × (i < 18) }
     ensures { result ≡ byte_at (two_bytes (header_fields atoms rows literals pairs)) i }
@@ -46,6 +47,7 @@ fn header_byte(atoms: usize, rows: usize, literals: usize, pairs: usize, i: usiz
 }
 
 // Byte i of the rows: after the three counts of a row comes a zero.
+#[tactic(auto, using(crate::proofs::Bytes::count_byte, crate::proofs::Bytes::zero_byte))]
 fn row_byte(rows: &[u8], i: usize) -> u8
     requires { i < 4 * (length rows.now / 3) }
     ensures { result ≡ byte_at (four_bytes rows.now) i }

@@ -22,16 +22,8 @@ overflow_mul-end c = let r = counts_in _ _ _ _ c.requires.0 in omega (arith, r.p
 pub overflow_add-end : goal.overflow_add-end
 overflow_add-end c = let r = counts_in _ _ _ _ c.requires.0 in omega (arith, r.rows_most, r.literals_most, r.pairs_most)
 
-pub returns-then-i-eq0 : goal.returns-then-i-eq0
-unfolding header_fields
-returns-then-i-eq0 c = let a = c.args in sym (low_byte (header_fields a.atoms a.rows a.literals a.pairs) a.i c.if-i-eq0.true)
-
 pub overflow_cast-result-2 : goal.overflow_cast-result-2
 unfolding header_fields
 overflow_cast-result-2 c =
     let a = c.args in
     omega (arith, fields_most a.atoms a.rows a.literals a.pairs (a.i / 2) (counts_in _ _ _ _ c.requires.0))
-
-pub returns : goal.returns
-unfolding header_fields
-returns c = let a = c.args in sym (high_byte (header_fields a.atoms a.rows a.literals a.pairs) a.i c.if-i-eq0.false)

@@ -12,12 +12,12 @@ loop-s-init c = small_start _ _ refl
 pub returns-then-t-s : goal.returns-then-t-s
 returns-then-t-s c =
     let r = c.round-t in
-    small_fixed _ _ r.result r.ensures c.loop-s.invariant c.if-t-s.true
+    small_fixed _ _ r.result r.ensures c.loop-s.invariant (omega arith)
 
 pub loop-s-smaller : goal.loop-s-smaller
 loop-s-smaller c =
     let r = c.round-t in
-    let l = small_grows _ _ r.result r.ensures c.if-t-s.false in
+    let l = small_grows _ _ r.result r.ensures (λ e. omega arith) in
     omega arith
 
 pub loop-s-preserved : goal.loop-s-preserved

@@ -1,5 +1,6 @@
 -- `split::option_fire` answers what option k of a row adds in a round. Its five ways out are: no head, a negative atom in the set, an earlier head
 -- atom in the set, a positive body in s, and one that is not. Assumes nothing.
+use Rattle.std.proofs.Common.{rules}
 use mathlib.Core.Path.{refl, ◌∙◌}
 use native.Mathlib.Omega.{arith}
 use Rattle.words.specs.Coded.{rule_in}
@@ -32,7 +33,7 @@ returns-then-pos_in c =
     let pos = c.pos_in in
     c.with_atom.ensures
     ∙ fire_added (rule_in a.row) a.k a.set a.s a.t (omega (arith, c.head_count.ensures)) c.neg_in.result first.result
-    c.neg_in.ensures first.ensures c.if-neg_in.false c.if-first-k.false pos.result pos.ensures c.if-pos_in.true _
+    c.neg_in.ensures first.ensures c.if-neg_in.false (search rules) pos.result pos.ensures c.if-pos_in.true _
     c.head_atom.ensures (head_small a.row a.k)
 
 pub returns : goal.returns
@@ -41,4 +42,4 @@ returns c =
     let first = c.head_place-first in
     let pos = c.pos_in in
     fire_missed (rule_in a.row) a.k a.set a.s a.t (omega (arith, c.head_count.ensures)) c.neg_in.result first.result
-    c.neg_in.ensures first.ensures c.if-neg_in.false c.if-first-k.false pos.result pos.ensures c.if-pos_in.false
+    c.neg_in.ensures first.ensures c.if-neg_in.false (search rules) pos.result pos.ensures c.if-pos_in.false

@@ -11,17 +11,11 @@ loop-n-init c = (omega arith, omega arith, number_first _)
 pub overflow_mul-number : goal.overflow_mul-number
 overflow_mul-number c = omega (arith, number_small c.loop-n.number c.option_count-options.result (omega arith) (omega arith))
 
-pub returns-then-number-gt4096 : goal.returns-then-number-gt4096
-returns-then-number-gt4096 c =
-    let h = c.loop-n in
-    let rows = c.args.rows.now in
-    number_stop rows (h.n + 1) _ (number_next rows h.n h.number h.invariant.2 _ (omega arith) c.option_count-options.ensures) c.if-number-gt4096.true
-
 pub loop-n-preserved : goal.loop-n-preserved
 loop-n-preserved c =
     let h = c.loop-n in
     let rows = c.args.rows.now in
-    (omega arith, c.if-number-gt4096.false, number_next rows h.n h.number h.invariant.2 _ (omega arith) c.option_count-options.ensures)
+    (omega arith, omega arith, number_next rows h.n h.number h.invariant.2 _ (omega arith) c.option_count-options.ensures)
 
 pub returns : goal.returns
 returns c =
