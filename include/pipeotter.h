@@ -1,10 +1,10 @@
 /* Pipeotter for C: which sets of atoms does a page of ranked rules allow, by how long a chain of reasons, which of them is
    best, and what a display shows by it. One more call makes a page from its parts.
 
-   Link with libcapi.a (x86-64; `rt staticlib capi` writes it). It wants memcpy and memset from you, and a compiler for C99
+   Link with libcapi.a (x86-64; `rt lib` in crates/capi writes it). It wants memcpy and memset from you, and a compiler for C99
    or C++11. The calls keep nothing between them, take no heap, and touch only what you lend. No call needs more than
-   20 KiB of stack. As built, list, best, pick and display need up to 15 KiB, the split test 5.8 KiB, the writer 1.3 KiB, every
-   other call less than 1 KiB. A call that takes a page reads it some three times, however many sets it tries
+   20 KiB of stack. As built by the kit before this one, list, best, pick and display need up to 15 KiB, the split test
+   5.8 KiB, the writer 1.3 KiB, every other call less than 1 KiB. A call that takes a page reads it some three times, however many sets it tries
    (docs/SPEED.md, which also tells of time). The calls may be made from several threads at once if no lent slice is
    written by two.
 

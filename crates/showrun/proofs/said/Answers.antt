@@ -18,19 +18,19 @@ module _ (input : List ℕ) where
   asked : (d : Displayed) (x y z : Float) (page : List ℕ) (flags : ℕ) → x ≡ reading_at input 0 2 → y ≡ reading_at input 4 6 → z ≡ reading_at input 8 10 → page ≡ drop 14 input → flags ≡ word_at input 12
       → DisplaySays (record { live = x; second = y; held = z }) page flags d → DisplaySays (readings_of input) (drop 14 input) (word_at input 12) d
   unfolding readings_of
-  asked d x y z page flags is_live is-second is_held_lem is-page is-flags says = rw (← is_live, ← is-second, ← is_held_lem, ← is-page, ← is-flags) says
+  asked d x y z page flags is_live is_second is_held is_page is_flags says = rw (← is_live, ← is_second, ← is_held, ← is_page, ← is_flags) says
 
   rest : take (length input - 14) (drop 14 input) ≡ drop 14 input
   rest = take_all (length input - 14) (drop 14 input) (omega (arith, length-drop 14 input))
 
 pub returns-then-input-lt14 : goal.returns-then-input-lt14
 unfolding said_of displayed
-returns-then-input-lt14 c = rw (lt-ltb (length c.args.input.now) 14 (omega (arith, c.if-input-lt14.true)))
+returns-then-input-lt14 c = rw (lt-ltb (length c.args.input.now) 14 (omega arith))
 
 pub returns : goal.returns
 unfolding said_of
 returns c =
     let input = c.args.input.now in
-    rw (le-ltb (length input) 14 (omega (arith, c.if-input-lt14.false)))
+    rw (le-ltb (length input) 14 (omega arith))
     (asked input c.display.result c.reading_at-live.result c.reading_at-second.result c.reading_at-held.result _ c.word_at-flags.result c.reading_at-live.ensures c.reading_at-second.ensures
     c.reading_at-held.ensures (rest input) c.word_at-flags.ensures c.display.ensures)

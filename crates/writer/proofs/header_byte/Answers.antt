@@ -1,10 +1,9 @@
 -- `header_byte` takes the number in which the byte stands, and of it the low or the high byte. Assumes nothing.
-use mathlib.Core.Path.{sym}
 use Prim.Native.Nat.{◌/◌}
 use native.Mathlib.Omega.{arith}
 use Rattle.page.proofs.Accepted.{counts_in}
 use Rattle.writer.specs.Content.{header_fields}
-use Rattle.writer.proofs.Bytes.{low_byte, high_byte, fields_most}
+use Rattle.writer.proofs.Bytes.{fields_most}
 use Rattle.writer.proofs.header_byte.Goals as goal
 
 pub overflow_mul-literals_at : goal.overflow_mul-literals_at

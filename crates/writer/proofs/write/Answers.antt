@@ -48,7 +48,7 @@ returns-then-buffer-end c =
     let end = c.page_length-end in
     let made = made_lent _ _ _ _ _ c.fill.ensures end.ensures.0 (lent end.result end.ensures.1) in
     let number : c.page_no-no.result ≡ content_no s = c.page_no-no.ensures ∙ ap page_no made ∙ same_number s (sym c.sizes_out.ensures ∙ c.if-sizes_out.false) in
-    write_short s _ _ number c.if-no-ne0.false (omega (arith, c.if-buffer-end.true, end.ensures.0))
+    write_short s _ _ number c.if-no-ne0.false (omega (arith, end.ensures.0))
 
 pub returns : goal.returns
 returns c =
@@ -57,6 +57,6 @@ returns c =
     let end = c.page_length-end in
     let made = made_lent _ _ _ _ _ c.fill.ensures end.ensures.0 (lent end.result end.ensures.1) in
     let number : c.page_no-no.result ≡ content_no s = c.page_no-no.ensures ∙ ap page_no made ∙ same_number s (sym c.sizes_out.ensures ∙ c.if-sizes_out.false) in
-    let room : length (encode s) ≤ length a.buffer.now = omega (arith, c.if-buffer-end.false, end.ensures.0) in
+    let room : length (encode s) ≤ length a.buffer.now = omega (arith, end.ensures.0) in
     write_made s _ _ number c.if-no-ne0.false room _ _ end.ensures.0
     (c.put.ensures ∙ ap (sets a.buffer.now 0) made ∙ over_sets (encode s) a.buffer.now room)
