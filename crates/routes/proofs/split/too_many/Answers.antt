@@ -1,8 +1,7 @@
 -- `split::too_many` multiplies the option counts row by row and stops above 4,096. What is kept: the product so far is at most 4,096, and times the
 -- number of the rows left it is the whole number. Assumes nothing.
-use Prim.Native.Nat.{◌+◌}
 use native.Mathlib.Omega.{arith}
-use Rattle.routes.proofs.SplitNumber.{number_first, number_next, number_stop, number_end, number_small}
+use Rattle.routes.proofs.SplitNumber.{number_first, number_next, number_end, number_small}
 use Rattle.routes.proofs.split.too_many.Goals as goal
 
 pub loop-n-init : goal.loop-n-init
