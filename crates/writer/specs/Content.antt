@@ -25,9 +25,9 @@ pair_total c = length c.pairs / 2
 -- the header's nine numbers: the form, the four counts, where the three parts start, and the whole length
 unfoldable pub header_fields : ℕ → ℕ → ℕ → ℕ → List ℕ
 header_fields atoms rows literals pairs =
-    let literals_at_lem = header_length + 4 * rows in
-    let pairs_at_lem = literals_at_lem + literals in
-    1 ∷ atoms ∷ rows ∷ literals ∷ pairs ∷ header_length ∷ literals_at_lem ∷ pairs_at_lem ∷ (pairs_at_lem + 2 * pairs) ∷ []
+    let literals_place = header_length + 4 * rows in
+    let pairs_place = literals_place + literals in
+    1 ∷ atoms ∷ rows ∷ literals ∷ pairs ∷ header_length ∷ literals_place ∷ pairs_place ∷ (pairs_place + 2 * pairs) ∷ []
 
 -- each number in two bytes, the low one first
 unfoldable pub two_bytes : List ℕ → List ℕ
