@@ -22,11 +22,13 @@ use Rattle.lanes.proofs.Stored.{part_stored}
 
 -- what the loops that store a block keep: x is what is left of the word from the set s on, and the sets from s on, stored from `at` on, leave what all
 -- sets of the block do
-abbrev pub ToStore : List ℕ → ℕ → List ℕ → ℕ → List ℕ → ℕ → ℕ → ℕ → Type 0
-ToStore marks b out₀ k out x s at =
-    (64 * b ≤ s) × (s ≤ 64 * b + 64) × (x ≡ get_or marks b 0 / 2 ^ (s - 64 * b)) × (length out ≡ length out₀)
-    × (k + length (keep (marked marks) (numbers (64 * b) 64)) ≡ at + length (passing (marked marks) s (64 * b + 64)))
-    × (sets out₀ k (keep (marked marks) (numbers (64 * b) 64)) ≡ sets out at (passing (marked marks) s (64 * b + 64)))
+pub record ToStore (marks : List ℕ) (b : ℕ) (out₀ : List ℕ) (k : ℕ) (out : List ℕ) (x s at : ℕ) : Type 0 where
+  pub from : 64 * b ≤ s
+  pub to : s ≤ 64 * b + 64
+  pub left : x ≡ get_or marks b 0 / 2 ^ (s - 64 * b)
+  pub long : length out ≡ length out₀
+  pub place : k + length (keep (marked marks) (numbers (64 * b) 64)) ≡ at + length (passing (marked marks) s (64 * b + 64))
+  pub stored : sets out₀ k (keep (marked marks) (numbers (64 * b) 64)) ≡ sets out at (passing (marked marks) s (64 * b + 64))
 
 -- from the set s on there is a gap, then a run of so many ones; y begins with the run
 pub record Run (marks : List ℕ) (b s gap y many : ℕ) : Type 0 where
@@ -123,3 +125,44 @@ one_stored out at s = refl
 
 pub one_left : {marks : List ℕ} {b s gap y : ℕ} → Run marks b s gap y 1 → y / 2 ≡ get_or marks b 0 / 2 ^ (s + gap + 1 - 64 * b)
 one_left {y = y} r = ap (λ (n : ℕ). n / 2) (sym (div-one y)) ∙ r.left
+
+-- ---- the two loops: how they begin, the run in hand, one turn, and the end
+pub to_store : (marks : List ℕ) (b : ℕ) (out : List ℕ) (k : ℕ) → ToStore marks b out k out (get_or marks b 0) (64 * b) k
+to_store marks b out k =
+    let e = runs_all marks b in
+    record {
+      from = omega arith;
+      to = omega arith;
+      left = runs_word marks b;
+      long = refl;
+      place = ap (λ (l : List ℕ). k + length l) e;
+      stored = ap (sets out k) e;
+    }
+
+module _ {marks : List ℕ} {b : ℕ} {out₀ : List ℕ} {k : ℕ} {out : List ℕ} {x s at : ℕ} (h : ToStore marks b out₀ k out x s at) where
+  pub run_here : get_or marks b 0 < 2 ^ 64 → (x ≡ 0 → ⊥)
+      → Run marks b s (count_trailing_zeros 64 x) (x / 2 ^ count_trailing_zeros 64 x) (count_trailing_zeros 64 (full - x / 2 ^ count_trailing_zeros 64 x))
+  run_here l p = next_run marks b s x h.from h.left l p
+
+  pub one_here : get_or marks b 0 < 2 ^ 64 → (x ≡ 0 → ⊥) → Run marks b s (count_trailing_zeros 64 x) (x / 2 ^ count_trailing_zeros 64 x) 1
+  one_here l p = next_one marks b s x h.from h.left l p
+
+  -- there is room for the run
+  pub run_room : {gap y many : ℕ} → Run marks b s gap y many → at + many ≤ k + length (keep (marked marks) (numbers (64 * b) 64))
+  run_room r = omega (arith, h.place, run_length r)
+
+  pub run_turn : {gap y many : ℕ} (r : Run marks b s gap y many) (out' : List ℕ) (x' : ℕ) → out' ≡ sets out at (numbers (s + gap) many)
+      → x' ≡ get_or marks b 0 / 2 ^ (s + gap + many - 64 * b) → ToStore marks b out₀ k out' x' (s + gap + many) (at + many)
+  run_turn r out' x' e l = record {
+    from = omega (arith, h.from);
+    to = r.fits;
+    left = l;
+    long = run_same r out out' at e ∙ h.long;
+    place = omega (arith, h.place, run_length r);
+    stored = h.stored ∙ run_stored r out out' at e;
+  }
+
+  pub all_stored : x ≡ 0 → (out ≡ sets out₀ k (keep (marked marks) (numbers (64 * b) 64))) × (at ≡ k + length (keep (marked marks) (numbers (64 * b) 64)))
+  all_stored z =
+      let e = runs_done marks b s x h.from h.to h.left z in
+      (sym (h.stored ∙ ap (sets out at) e), omega (arith, h.place, ap length e))

@@ -1,18 +1,19 @@
 -- The ways out of the writer: refused by the content, refused for want of room, and the page made. And the page that it makes in its own memory is the
 -- first part of that array. Assumes nothing.
 use mathlib.Core.Path.{◌≡◌, sym, ap, ◌∙◌}
+use mathlib.Core.Bool.{false}
 use mathlib.Core.List.{List, ◌++◌, append-nil}
 use Prim.Native.Nat.{ℕ, ◌≤◌, ◌<◌}
 use native.Mathlib.Omega.{arith}
 use lib.ListN.{length, take, length-append, drop_of_length-le}
 use lib.Seq.{take_at}
 use borrow.Author.Tests.{ne_eqb, lt-ltb, le-ltb}
-use Rattle.page.specs.Refusals.{first_that}
+use Rattle.page.specs.Refusals.{first_that, page_no}
 use Rattle.lanes.specs.Entries.{over, stored}
 use Rattle.engine.proofs.Refused.{refused_first, refused_later}
 use Rattle.writer.specs.Content.{Content, encode}
-use Rattle.writer.specs.Writes.{content_refusals, content_no, room_refusals, write_refusals, write_no, written, WriteSays}
-use Rattle.writer.proofs.Encoding.{content_numbered}
+use Rattle.writer.specs.Writes.{sizes_out, content_refusals, content_no, room_refusals, write_refusals, write_no, written, WriteSays}
+use Rattle.writer.proofs.Encoding.{content_numbered, same_number}
 
 module _ (c : Content) (out : List ℕ) (k : ℕ) (e : k ≡ content_no c) where
   pub write_refused : (k ≡ 0 → ⊥) → WriteSays c out (record { no = k; length = 0 }) out
@@ -46,3 +47,8 @@ module _ (n : ℕ) (made filled old rest : List ℕ) (e : filled ≡ over made o
 
   pub made_lent : take n (filled ++ rest) ≡ made
   made_lent = take_at filled rest n (ap length filled_is ∙ sym en) ∙ filled_is
+
+-- so its number is the content's
+pub made_number : (c : Content) (end k : ℕ) (filled old rest : List ℕ) → sizes_out c ≡ false → filled ≡ over (encode c) old → end ≡ length (encode c)
+    → end ≡ length old → k ≡ page_no (take end (filled ++ rest)) → k ≡ content_no c
+made_number c end k filled old rest s e en eo ek = ek ∙ ap page_no (made_lent end (encode c) filled old rest e en eo) ∙ same_number c s

@@ -2,13 +2,11 @@
 use Rattle.std.proofs.Common.{◌≡◌, sym, ap, ◌∙◌, ◌≤◌, length, take, replicate, ℕ, List, arith}
 use lib.Seq.{sets, length-take-le}
 use Rattle.std.proofs.lemmas.List.{length-replicate}
-use Rattle.page.specs.Refusals.{page_no}
 use Rattle.page.proofs.Refusals.{first_here}
 use Rattle.lanes.proofs.Stored.{over_sets}
 use Rattle.writer.specs.Content.{content, encode}
 use Rattle.writer.specs.Writes.{content_refusals, content_no}
-use Rattle.writer.proofs.Encoding.{same_number}
-use Rattle.writer.proofs.Ways.{write_refused, write_short, write_made, made_room, made_lent}
+use Rattle.writer.proofs.Ways.{write_refused, write_short, write_made, made_room, made_lent, made_number}
 use Rattle.writer.proofs.write.Goals as goal
 
 -- the part of the made page that is lent to the call has the page's length
@@ -34,29 +32,23 @@ slice_bounds-page-end-2 c = let end = c.page_length-end in made_room _ _ _ _ _ c
 
 pub returns-then-no-ne0 : goal.returns-then-no-ne0
 returns-then-no-ne0 c =
-    let a = c.args in
-    let s = content a.atoms a.rows.now a.literals.now a.pairs.now in
     let end = c.page_length-end in
-    let made = made_lent _ _ _ _ _ c.fill.ensures end.ensures.0 (lent end.result end.ensures.1) in
-    let number : c.page_no-no.result ≡ content_no s = c.page_no-no.ensures ∙ ap page_no made ∙ same_number s (sym c.sizes_out.ensures ∙ c.if-sizes_out.false) in
-    write_refused s _ _ number c.if-no-ne0.true
+    let number = made_number _ _ _ _ _ _ (sym c.sizes_out.ensures ∙ c.if-sizes_out.false) c.fill.ensures end.ensures.0 (lent end.result end.ensures.1) c.page_no-no.ensures in
+    write_refused _ _ _ number c.if-no-ne0.true
 
 pub returns-then-buffer-end : goal.returns-then-buffer-end
 returns-then-buffer-end c =
-    let a = c.args in
-    let s = content a.atoms a.rows.now a.literals.now a.pairs.now in
     let end = c.page_length-end in
-    let made = made_lent _ _ _ _ _ c.fill.ensures end.ensures.0 (lent end.result end.ensures.1) in
-    let number : c.page_no-no.result ≡ content_no s = c.page_no-no.ensures ∙ ap page_no made ∙ same_number s (sym c.sizes_out.ensures ∙ c.if-sizes_out.false) in
-    write_short s _ _ number c.if-no-ne0.false (omega (arith, end.ensures.0))
+    let number = made_number _ _ _ _ _ _ (sym c.sizes_out.ensures ∙ c.if-sizes_out.false) c.fill.ensures end.ensures.0 (lent end.result end.ensures.1) c.page_no-no.ensures in
+    write_short _ _ _ number c.if-no-ne0.false (omega (arith, end.ensures.0))
 
 pub returns : goal.returns
 returns c =
+    let end = c.page_length-end in
+    let number = made_number _ _ _ _ _ _ (sym c.sizes_out.ensures ∙ c.if-sizes_out.false) c.fill.ensures end.ensures.0 (lent end.result end.ensures.1) c.page_no-no.ensures in
     let a = c.args in
     let s = content a.atoms a.rows.now a.literals.now a.pairs.now in
-    let end = c.page_length-end in
     let made = made_lent _ _ _ _ _ c.fill.ensures end.ensures.0 (lent end.result end.ensures.1) in
-    let number : c.page_no-no.result ≡ content_no s = c.page_no-no.ensures ∙ ap page_no made ∙ same_number s (sym c.sizes_out.ensures ∙ c.if-sizes_out.false) in
     let room : length (encode s) ≤ length a.buffer.now = omega (arith, end.ensures.0) in
     write_made s _ _ number c.if-no-ne0.false room _ _ end.ensures.0
     (c.put.ensures ∙ ap (sets a.buffer.now 0) made ∙ over_sets (encode s) a.buffer.now room)
