@@ -1,5 +1,6 @@
 pub mod Scan
 pub mod Refusals
+pub mod Refusing
 pub mod Words
 pub mod Places
 pub mod Accepted

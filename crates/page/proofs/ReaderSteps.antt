@@ -1,6 +1,7 @@
 -- What a row reader says from its opening on. On an accepted page R steps give rows 0 to R - 1 in order, and every later step says that there is
 -- none; on a refused page every step says so. Because there is a row n exactly where the page is accepted and n is below R, and a step goes on
 -- where there is one and stays where there is none. Then what an answer tells of the row in it. Assumes nothing.
+use Rattle.std.specs.Prelude.{Option, Some, None}
 use mathlib.Core.Path.{◌≡◌, refl, sym, ap, ◌∙◌}
 use mathlib.Core.Bool.{Bool, true, false, cond, true≢false, false≢true}
 use mathlib.Core.List.{List, ◌∷◌, ◌++◌, map}
@@ -18,8 +19,6 @@ use Rattle.page.specs.Refusals.{page_no}
 use Rattle.page.specs.Program.{literal_place}
 use Rattle.page.specs.Rows.{row_from}
 use Rattle.page.specs.declared.rows.Row as Rows
-use Rattle.page.specs.declared.reader.Step.{Step}
-use Rattle.page.specs.declared.reader.Step.TheVariants.{Row, Past}
 use Rattle.page.specs.Reader.{Said, nothing, said, has_row, row_there, row_said, number_after, steps_say}
 use Rattle.page.proofs.RowSteps.{Bytes}
 
@@ -72,32 +71,32 @@ refused_is_past page h n k = stays page n (row_refused page n h) k
 abbrev row_in : Said → Rows.Row
 row_in s = record { head = s.head; pos = s.pos; neg = s.neg; place = s.place }
 
-row_of : (page : List ℕ) (n : ℕ) (row : Rows.Row) (b : Bool) → said (Row row) ≡ cond b (row_there page n) nothing
+row_of : (page : List ℕ) (n : ℕ) (row : Rows.Row) (b : Bool) → said (Some row) ≡ cond b (row_there page n) nothing
     → (b ≡ true) × (row ≡ row_from page n (literal_place page n))
 unfolding said row_there row_from
 row_of page n row true e = (refl, ap row_in e)
 row_of page n row false e = absurd (true≢false (ap (λ (s : Said). s.more) e))
 
 -- an answer with a row: there is a row n, and it is that row
-pub read_row : (page : List ℕ) (n : ℕ) (row : Rows.Row) → said (Row row) ≡ row_said page n
+pub read_row : (page : List ℕ) (n : ℕ) (row : Rows.Row) → said (Some row) ≡ row_said page n
     → (has_row page n ≡ true) × (row ≡ row_from page n (literal_place page n))
 unfolding row_said
 read_row page n row e = row_of page n row (has_row page n) e
 
-past_of : (page : List ℕ) (n : ℕ) (b : Bool) → said Past ≡ cond b (row_there page n) nothing → b ≡ false
+past_of : (page : List ℕ) (n : ℕ) (b : Bool) → said None ≡ cond b (row_there page n) nothing → b ≡ false
 unfolding said row_there
 past_of page n true e = absurd (false≢true (ap (λ (s : Said). s.more) e))
 past_of page n false e = refl
 
 -- an answer without one: there is no row n
-pub read_past : (page : List ℕ) (n : ℕ) → said Past ≡ row_said page n → has_row page n ≡ false
+pub read_past : (page : List ℕ) (n : ℕ) → said None ≡ row_said page n → has_row page n ≡ false
 unfolding row_said
 read_past page n e = past_of page n (has_row page n) e
 
 -- what is said settles the answer
-pub one_answer : (a b : Step) → said a ≡ said b → a ≡ b
+pub one_answer : (a b : Option Rows.Row) → said a ≡ said b → a ≡ b
 unfolding said
-one_answer (Row r) (Row q) e = ap Row (ap row_in e)
-one_answer (Row r) Past e = absurd (true≢false (ap (λ (s : Said). s.more) e))
-one_answer Past (Row q) e = absurd (false≢true (ap (λ (s : Said). s.more) e))
-one_answer Past Past e = refl
+one_answer (Some r) (Some q) e = ap Some (ap row_in e)
+one_answer (Some r) None e = absurd (true≢false (ap (λ (s : Said). s.more) e))
+one_answer None (Some q) e = absurd (false≢true (ap (λ (s : Said). s.more) e))
+one_answer None None e = refl

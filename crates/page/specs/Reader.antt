@@ -1,10 +1,9 @@
 -- What a row reader says. Where the page is refused there is no row; where it is accepted, those below R.
-use Rattle.std.specs.Prelude.{Bool, true, false, ◌&&◌, cond, List, [], ◌∷◌, ℕ, zero, suc, ◌+◌, ltb, eqb}
+use Rattle.std.specs.Prelude.{Bool, true, false, ◌&&◌, cond, List, [], ◌∷◌, ℕ, zero, suc, ◌+◌, ltb, eqb, Option, Some, None}
 use Rattle.page.specs.Fields.{row_count, head_count, pos_count, neg_count}
 use Rattle.page.specs.Program.{literal_place}
 use Rattle.page.specs.Refusals.{page_no}
-use Rattle.page.specs.declared.reader.Step.{Step}
-use Rattle.page.specs.declared.reader.Step.TheVariants.{Row, Past}
+use Rattle.page.specs.declared.rows.Row.{Row}
 
 -- what is said of a row number: that there is a row, its three counts and the place of its first literal byte; or that there is none
 pub record Said : Type 0 where
@@ -17,10 +16,10 @@ pub record Said : Type 0 where
 abbrev pub nothing : Said
 nothing = record { more = false; head = 0; pos = 0; neg = 0; place = 0 }
 
--- each case of a step says this
-unfoldable pub said : Step → Said
-said (Row r) = record { more = true; head = r.head; pos = r.pos; neg = r.neg; place = r.place }
-said Past = nothing
+-- each case of an answer says this
+unfoldable pub said : Option Row → Said
+said (Some r) = record { more = true; head = r.head; pos = r.pos; neg = r.neg; place = r.place }
+said None = nothing
 
 -- there is a row n
 unfoldable pub has_row : List ℕ → ℕ → Bool

@@ -6,20 +6,15 @@ ghost use Rattle.page.specs.Fields as fields;
 pub fn byte_at(page: &[u8], i: usize) -> u8
     ensures { result ≡ fields.byte_at page.now i }
 {
-    if i < page.len() {
-        return page[i];
-    }
-    0
+    page.get(i).copied().unwrap_or(0)
 }
 
 // The two bytes from i on, the low one first.
 pub fn word_at(page: &[u8], i: u8) -> u16
     ensures { result ≡ fields.word_at page.now i }
 {
-    let at = i as usize;
-    let low = byte_at(page, at) as u16;
-    let high = byte_at(page, at + 1) as u16;
-    low + 256 * high
+    let at = usize::from(i);
+    u16::from_le_bytes([byte_at(page, at), byte_at(page, at + 1)])
 }
 
 pub fn form_of(page: &[u8]) -> u16

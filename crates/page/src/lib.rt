@@ -7,4 +7,5 @@ pub mod fields;
 pub mod letter;
 pub mod ranges;
 pub mod reader;
+pub mod refusal;
 pub mod rows;

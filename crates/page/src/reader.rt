@@ -1,18 +1,12 @@
 // The row reader: it stands on the lent page at a row number and moves forward one row at a time. Past the last row it says so and stays.
-// The functions over the reader are thin: each takes it apart and leaves the work to one that takes the page and a number.
 ghost use Rattle.std.specs.Prelude.{◌≡◌};
 ghost use Rattle.page.specs.Refusals.{page_no};
+ghost use Rattle.page.specs.Answers.{no};
 ghost use Rattle.page.specs.Reader as reads;
 
+use super::refusal::Refusal;
 use super::rows::Row;
 use super::{accept, fields, rows};
-
-// What stands at a row number: a row, with its three counts and the place of its first literal, or nothing.
-#[derive(Clone, Copy)]
-pub enum Step {
-    Row(Row),
-    Past,
-}
 
 // A page and the number of the row that is read next.
 #[derive(Clone, Copy)]
@@ -21,10 +15,10 @@ pub struct Reader<'a> {
     pub at: u16,
 }
 
-// Opening answers the page's refusal number, and a reader.
+// Opening answers whether the page is accepted, and a reader.
 #[derive(Clone, Copy)]
 pub struct Opened<'a> {
-    pub no: u16,
+    pub accepted: Result<(), Refusal>,
     pub reader: Reader<'a>,
 }
 
@@ -32,20 +26,17 @@ pub struct Opened<'a> {
 fn has_row(page: &[u8], n: u16) -> bool
     ensures { result ≡ reads.has_row page.now n }
 {
-    if accept::page_no(page) == 0 {
-        return n < fields::row_count(page);
-    }
-    false
+    accept::check_page(page).is_ok() && n < fields::row_count(page)
 }
 
-// Row n of the page, by its number. This is the function to call where no reader is kept.
-pub fn row_at(page: &[u8], n: u16) -> Step
+// Row n of the page, by its number, or nothing. This is the function to call where no reader is kept.
+pub fn row_at(page: &[u8], n: u16) -> Option<Row>
     ensures { reads.said result ≡ reads.row_said page.now n }
 {
     if has_row(page, n) {
-        return Step::Row(rows::row_from(page, n, rows::place_of(page, n)));
+        return Some(rows::row_from(page, n, rows::place_of(page, n)));
     }
-    Step::Past
+    None
 }
 
 // The number after n where there is a row n; else n.
@@ -58,19 +49,19 @@ fn after(page: &[u8], n: u16) -> u16
     n
 }
 
-// Opens a page: its refusal number, and a reader at row 0. A refused page has no row, so there the reader is past its last one.
+// Opens a page: whether it is accepted, and a reader at row 0. A refused page has no row, so there the reader is past its last one.
 pub fn open<'a>(src: &'a [u8]) -> Opened<'a>
-    ensures { (result.no ≡ page_no src.now) × (result.reader.src ≡ src.entry) × (result.reader.at ≡ 0) }
+    ensures { (no result.accepted ≡ page_no src.now) × (result.reader.src ≡ src.entry) × (result.reader.at ≡ 0) }
 {
-    let no = accept::page_no(src);
+    let accepted = accept::check_page(src);
     Opened {
-        no,
+        accepted,
         reader: Reader { src, at: 0 },
     }
 }
 
 // What stands where the reader is.
-pub fn next<'a>(r: Reader<'a>) -> Step
+pub fn next<'a>(r: Reader<'a>) -> Option<Row>
     ensures { reads.said result ≡ reads.row_said r.entry.src.now r.entry.at }
 {
     row_at(r.src, r.at)

@@ -1,12 +1,16 @@
--- `reader::has_row` makes the two tests of the definition. Assumes nothing.
-use borrow.Author.Tests.{ne_eqb}
+-- `reader::has_row` makes the two tests of the definition: a page is accepted exactly where its number is 0. Assumes nothing.
+use mathlib.Core.Path.{◌∙◌, sym}
 use Rattle.page.specs.Reader.{has_row}
+use Rattle.page.proofs.Refusing.{ok_number, err_number}
 use Rattle.page.proofs.reader.has_row.Goals as goal
 
-pub returns-then-page_no-eq0 : goal.returns-then-page_no-eq0
+pub returns-then-is_ok : goal.returns-then-is_ok
 unfolding has_row
-returns-then-page_no-eq0 c = rw (← c.page_no.ensures, c.if-page_no-eq0.true, ← c.row_count.ensures)
+returns-then-is_ok c =
+    rw (← c.check_page.ensures, ok_number c.check_page.result (sym c.is_ok.ensures.value ∙ c.if-is_ok.true), ← c.row_count.ensures)
 
-pub returns : goal.returns
+pub returns-else-is_ok : goal.returns-else-is_ok
 unfolding has_row
-returns c = rw (← c.page_no.ensures, ne_eqb c.page_no.result 0 c.if-page_no-eq0.false)
+returns-else-is_ok c =
+    let e = sym c.is_ok.ensures.value ∙ c.if-is_ok.false in
+    rw (← c.check_page.ensures, err_number c.check_page.result e) c.if-is_ok.false
