@@ -1,4 +1,5 @@
 pub mod Lists
+pub mod Each
 pub mod LeastClosed
 pub mod AnswerParts
 pub mod FirstAtom

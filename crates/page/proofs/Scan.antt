@@ -24,17 +24,18 @@ module _ (i n m : ℕ) (e : n ≡ m + 1) where
   numbers_step = rw (e, add-one m, add-one i) refl
 
 module _ (page : List ℕ) (i n m : ℕ) (e : n ≡ m + 1) where
-  pub literals_step : (x : ℕ) → x ≡ byte_at page i → literals page i n ≡ x ∷ literals page (i + 1) m
+  pub literals_step : (j : ℕ) → j ≡ i + 1 → (x : ℕ) → x ≡ byte_at page i → literals page i n ≡ x ∷ literals page j m
   unfolding literals
-  literals_step x ex = rw (e, add-one m, ex) refl
+  literals_step j ej x ex = rw (e, ej, add-one m, ex) refl
 
   pub rows_step : (r k : ℕ) → k ≡ literals_of page r → rows_from page r i n ≡ rule_at page r i ∷ rows_from page (r + 1) (i + k) m
   unfolding rows_from
   rows_step r k ek = rw (e, add-one m, ek) refl
 
-  pub pairs_step : (x y : ℕ) → x ≡ byte_at page i → y ≡ byte_at page (i + 1) → pairs_from page i n ≡ record { one = x; other = y } ∷ pairs_from page (i + 2) m
+  pub pairs_step : (j : ℕ) → j ≡ i + 2 → (x y : ℕ) → x ≡ byte_at page i → y ≡ byte_at page (i + 1)
+      → pairs_from page i n ≡ record { one = x; other = y } ∷ pairs_from page j m
   unfolding pairs_from
-  pairs_step x y ex ey = rw (e, add-one m, ex, ey) refl
+  pairs_step j ej x y ex ey = rw (e, ej, add-one m, ex, ey) refl
 
 -- ---- a run of none
 pub numbers_none : (i n : ℕ) → n ≡ 0 → numbers i n ≡ []

@@ -1,6 +1,7 @@
 pub mod Bodies
 pub mod Places
 pub mod Rest
+pub mod Totals
 pub mod Sets
 pub mod Digits
 pub mod Filled

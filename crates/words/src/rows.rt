@@ -10,36 +10,19 @@ use super::row;
 fn pair_in(pair: u16, s: u16) -> bool
     ensures { result ≡ (has s (pair_in pair).one && has s (pair_in pair).other) }
 {
-    if atoms::holds(s, (pair % 256) as u8) {
-        return atoms::holds(s, (pair / 256) as u8);
-    }
-    false
+    atoms::holds(s, (pair % 256) as u8) && atoms::holds(s, (pair / 256) as u8)
 }
 
 // s holds both atoms of no pair.
 pub fn no_pair(pairs: &[u16], s: u16) -> bool
     ensures { result ≡ no_pair (pairs_in pairs.now) s }
 {
-    let mut n = 0;
-    while n < pairs.len() {
-        if pair_in(pairs[n], s) {
-            return false;
-        }
-        n += 1;
-    }
-    true
+    !pairs.iter().any(|&pair| pair_in(pair, s))
 }
 
 // s satisfies every row.
 pub fn rows_satisfied(rows: &[u64], s: u16) -> bool
     ensures { result ≡ satisfies_all s (rules_in rows.now) }
 {
-    let mut n = 0;
-    while n < rows.len() {
-        if !row::satisfied(rows[n], s) {
-            return false;
-        }
-        n += 1;
-    }
-    true
+    rows.iter().all(|&row| row::satisfied(row, s))
 }

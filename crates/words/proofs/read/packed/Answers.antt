@@ -1,6 +1,6 @@
--- `read::packed` goes from the last literal to the first. What is kept: the number so far is that of the literals passed. Assumes nothing.
+-- `read::packed` goes from the last literal to the first. Assumes nothing.
 use mathlib.Core.Path.{◌≡◌, ◌∙◌}
-use Prim.Native.Nat.{ℕ, ◌+◌, ◌-◌, ◌≤◌}
+use Prim.Native.Nat.{◌+◌, ◌-◌}
 use native.Mathlib.Nat.{add-zero, sub-zero}
 use native.Mathlib.Omega.{arith}
 use Rattle.page.specs.Program.{literals}
@@ -8,27 +8,22 @@ use Rattle.page.proofs.Scan.{literals_step, literals_none}
 use Rattle.words.proofs.Digits.{packed_step, packed_none}
 use Rattle.words.proofs.read.packed.Goals as goal
 
-next : (i k : ℕ) → 1 ≤ k → i + (k - 1) + 1 ≡ i + k
-next i k h = omega arith
-
-pub loop-left-init : goal.loop-left-init
-loop-left-init c =
+pub loop-k-init : goal.loop-k-init
+loop-k-init c =
     let a = c.args in
-    (omega arith, packed_none _ (literals_none a.page.now (a.from + a.n) (a.n - a.n) (omega arith)))
+    packed_none _ (literals_none a.page.now (a.from + a.n) (a.n - a.n) (omega arith))
 
-pub loop-left-preserved : goal.loop-left-preserved
-loop-left-preserved c =
-    let h = c.loop-left in
+pub loop-k-preserved : goal.loop-k-preserved
+loop-k-preserved c =
+    let h = c.loop-k in
     let a = c.args in
-    let page = a.page.now in (
-      omega arith,
-      packed_step (literals page (a.from + (h.left - 1)) (a.n - (h.left - 1))) (literals page (a.from + h.left) (a.n - h.left)) c.byte_at-a.result h.h
-          (rw (← next a.from h.left (omega arith)) (literals_step page (a.from + (h.left - 1)) (a.n - (h.left - 1)) (a.n - h.left) (omega arith) _ c.byte_at-a.ensures))
-          h.invariant.1,
-    )
+    let page = a.page.now in
+    packed_step (literals page (a.from + (h.k - 1)) (a.n - (h.k - 1))) (literals page (a.from + h.k) (a.n - h.k)) c.from-a.result h.h
+    (literals_step page (a.from + (h.k - 1)) (a.n - (h.k - 1)) (a.n - h.k) (omega arith) _ (omega arith) _ (c.from-a.ensures ∙ c.byte_at.ensures ∙ rw c.from.ensures))
+    h.invariant
 
 pub returns : goal.returns
 returns c =
-    let h = c.loop-left in
-    let z : h.left ≡ 0 = omega arith in
-    h.invariant.1 ∙ rw (z, add-zero, sub-zero)
+    let h = c.loop-k in
+    let z : h.k ≡ 0 = omega arith in
+    h.invariant ∙ rw (z, add-zero, sub-zero)

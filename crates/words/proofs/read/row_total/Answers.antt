@@ -1,17 +1,10 @@
 -- `read::row_total`: the smaller of the page's row count and 32. Assumes nothing.
 use native.Mathlib.Omega.{arith}
-use borrow.Author.Tests.{lt-ltb, le-ltb}
-use Rattle.words.specs.Coded.{row_total, at_most}
+use mathlib.Core.Path.{◌∙◌}
+use Rattle.words.specs.Coded.{row_total}
+use Rattle.words.proofs.Totals.{min_at_most}
 use Rattle.words.proofs.read.row_total.Goals as goal
 
-pub returns-then-n-lt32 : goal.returns-then-n-lt32
-unfolding row_total at_most
-returns-then-n-lt32 c =
-    let n = c.row_count-n in
-    (rw (← n.ensures, lt-ltb n.result 32 (omega arith)), omega arith)
-
 pub returns : goal.returns
-unfolding row_total at_most
-returns c =
-    let n = c.row_count-n in
-    (rw (← n.ensures, le-ltb n.result 32 (omega arith)), omega arith)
+unfolding row_total
+returns c = (c.min.ensures ∙ min_at_most _ _ 32 (c.from.ensures ∙ c.row_count.ensures), omega arith)

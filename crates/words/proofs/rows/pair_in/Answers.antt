@@ -1,11 +1,12 @@
--- `rows::pair_in` looks for the one atom and then for the other. Assumes nothing.
+-- `pair_in` asks for the first atom, and then for the other. Assumes nothing.
+use native.Mathlib.Omega.{arith}
 use Rattle.words.specs.Coded.{pair_in}
 use Rattle.words.proofs.rows.pair_in.Goals as goal
 
 pub returns-then-holds : goal.returns-then-holds
 unfolding pair_in
-returns-then-holds c = rw (← c.holds.ensures, c.if-holds.true, ← c.holds-then-holds.ensures)
+returns-then-holds c = grind arith
 
-pub returns : goal.returns
+pub returns-else-holds : goal.returns-else-holds
 unfolding pair_in
-returns c = rw (← c.holds.ensures, c.if-holds.false)
+returns-else-holds c = grind arith

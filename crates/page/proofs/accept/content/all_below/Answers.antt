@@ -26,7 +26,7 @@ unfolding is_below
 returns-then-atoms-page c =
     let h = c.loop-left in
     let a = c.args in
-    sym (h.invariant.1 ∙ every_stop (is_below a.atoms) _ _ _ (literals_step a.page.now h.i h.left (h.left - 1) (omega arith) _ refl)
+    sym (h.invariant.1 ∙ every_stop (is_below a.atoms) _ _ _ (literals_step a.page.now h.i h.left (h.left - 1) (omega arith) _ refl _ refl)
     (le-ltb _ _ c.if-atoms-page.true))
 
 pub loop-left-preserved : goal.loop-left-preserved
@@ -35,7 +35,7 @@ loop-left-preserved c =
     let h = c.loop-left in
     let a = c.args in (
       omega arith,
-      h.invariant.1 ∙ every_go (is_below a.atoms) _ _ _ (literals_step a.page.now h.i h.left (h.left - 1) (omega arith) _ refl)
+      h.invariant.1 ∙ every_go (is_below a.atoms) _ _ _ (literals_step a.page.now h.i h.left (h.left - 1) (omega arith) _ refl _ refl)
           (lt-ltb _ _ c.if-atoms-page.false),
     )
 

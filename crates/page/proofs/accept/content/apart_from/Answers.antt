@@ -16,7 +16,7 @@ returns-then-not-fine c =
     let h = c.loop-left in
     let a = c.args in
     sym (h.invariant.1 ∙ every_stop (apart (record { one = a.one; other = a.other })) _ _ _
-    (pairs_step a.page.now h.i h.left (h.left - 1) (omega arith) _ _ c.byte_at-a.ensures c.byte_at-b.ensures)
+    (pairs_step a.page.now h.i h.left (h.left - 1) (omega arith) _ refl _ _ c.byte_at-a.ensures c.byte_at-b.ensures)
     c.if-not-fine.true)
 
 pub loop-left-preserved : goal.loop-left-preserved
@@ -26,7 +26,7 @@ loop-left-preserved c =
     let a = c.args in (
       omega arith,
       h.invariant.1 ∙ every_go (apart (record { one = a.one; other = a.other })) _ _ _
-          (pairs_step a.page.now h.i h.left (h.left - 1) (omega arith) _ _ c.byte_at-a.ensures c.byte_at-b.ensures)
+          (pairs_step a.page.now h.i h.left (h.left - 1) (omega arith) _ refl _ _ c.byte_at-a.ensures c.byte_at-b.ensures)
           c.if-not-fine.false,
     )
 

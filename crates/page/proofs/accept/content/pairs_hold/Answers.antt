@@ -17,7 +17,7 @@ returns-then-other-one c =
     let h = c.loop-left in
     let a = c.args in
     sym (h.invariant.1 ∙ hold_crossed _ _ _
-    (pairs_step a.page.now h.i h.left (h.left - 1) (omega arith) _ _ c.byte_at-one.ensures c.byte_at-other.ensures)
+    (pairs_step a.page.now h.i h.left (h.left - 1) (omega arith) _ refl _ _ c.byte_at-one.ensures c.byte_at-other.ensures)
     (le-ltb _ _ c.if-other-one.true))
 
 pub returns-then-not-apart_from : goal.returns-then-not-apart_from
@@ -25,7 +25,7 @@ returns-then-not-apart_from c =
     let h = c.loop-left in
     let a = c.args in
     sym (h.invariant.1 ∙ hold_shared _ _ _
-    (pairs_step a.page.now h.i h.left (h.left - 1) (omega arith) _ _ c.byte_at-one.ensures c.byte_at-other.ensures)
+    (pairs_step a.page.now h.i h.left (h.left - 1) (omega arith) _ refl _ _ c.byte_at-one.ensures c.byte_at-other.ensures)
     _ c.apart_from.ensures c.if-not-apart_from.true)
 
 pub loop-left-preserved : goal.loop-left-preserved
@@ -35,7 +35,7 @@ loop-left-preserved c =
     let a = c.args in (
       omega arith,
       h.invariant.1 ∙ hold_go _ _ _
-          (pairs_step a.page.now h.i h.left (h.left - 1) (omega arith) _ _ c.byte_at-one.ensures c.byte_at-other.ensures)
+          (pairs_step a.page.now h.i h.left (h.left - 1) (omega arith) _ refl _ _ c.byte_at-one.ensures c.byte_at-other.ensures)
           (lt-ltb _ _ c.if-other-one.false) _ c.apart_from.ensures c.if-not-apart_from.false,
     )
 
