@@ -58,24 +58,24 @@ pub fn rows_at(page: &[u8]) -> u32
 pub fn literals_at(page: &[u8]) -> u32
     ensures { result ≡ fields.literals_at page.now }
 {
-    let rows = row_count(page) as u32;
+    let rows = u32::from(row_count(page));
     18 + 4 * rows
 }
 
 pub fn pairs_at(page: &[u8]) -> u32
     ensures { result ≡ fields.pairs_at page.now }
 {
-    let rows = row_count(page) as u32;
-    let literals = literal_count(page) as u32;
+    let rows = u32::from(row_count(page));
+    let literals = u32::from(literal_count(page));
     18 + 4 * rows + literals
 }
 
 pub fn end_of(page: &[u8]) -> u32
     ensures { result ≡ fields.end_of page.now }
 {
-    let rows = row_count(page) as u32;
-    let literals = literal_count(page) as u32;
-    let pairs = pair_count(page) as u32;
+    let rows = u32::from(row_count(page));
+    let literals = u32::from(literal_count(page));
+    let pairs = u32::from(pair_count(page));
     18 + 4 * rows + literals + 2 * pairs
 }
 
@@ -84,7 +84,7 @@ fn row_byte(page: &[u8], r: u16, k: u8) -> u8
     ensures { result ≡ fields.byte_at page.now (fields.rows_at page.now + 4 * r + k) }
 {
     let at = rows_at(page) as usize;
-    byte_at(page, at + 4 * (r as usize) + (k as usize))
+    byte_at(page, at + 4 * usize::from(r) + usize::from(k))
 }
 
 // The counts of row r and the byte after them.
@@ -116,8 +116,8 @@ pub fn spare_byte(page: &[u8], r: u16) -> u8
 pub fn literals_of(page: &[u8], r: u16) -> u16
     ensures { result ≡ fields.literals_of page.now r }
 {
-    let head = head_count(page, r) as u16;
-    let pos = pos_count(page, r) as u16;
-    let neg = neg_count(page, r) as u16;
+    let head = u16::from(head_count(page, r));
+    let pos = u16::from(pos_count(page, r));
+    let neg = u16::from(neg_count(page, r));
     head + pos + neg
 }

@@ -6,7 +6,7 @@ ghost use Rattle.page.specs.Refusals as refusals;
 fn in_range(n: usize, low: usize, high: usize) -> bool
     ensures { result ≡ refusals.in_range low high n }
 {
-    (low <= n) & (n <= high)
+    (low..=high).contains(&n)
 }
 
 // One of the four numbers lies outside its range.

@@ -20,7 +20,7 @@ pub struct Row {
 pub fn row_from(page: &[u8], n: u16, place: u32) -> Row
     ensures { result ≡ means.row_from page.now n place }
 {
-    let at = 18 + 4 * (n as usize);
+    let at = 18 + 4 * usize::from(n);
     // One test for the row's counts, where the page has the whole row.
     if at + 3 < page.len() {
         let head = page[at];
@@ -55,11 +55,8 @@ pub fn first_place(page: &[u8]) -> u32
 pub fn place_after(row: Row) -> u32
     ensures { result ≡ means.place_after row }
 {
-    let place = row.place as u64;
-    let head = row.head as u64;
-    let pos = row.pos as u64;
-    let neg = row.neg as u64;
-    ((place + head + pos + neg) % 4294967296) as u32
+    let literals = u32::from(row.head) + u32::from(row.pos) + u32::from(row.neg);
+    row.place.wrapping_add(literals)
 }
 
 // The place of the first literal of row n.
@@ -67,10 +64,8 @@ pub fn place_of(page: &[u8], n: u16) -> u32
     ensures { result ≡ literal_place page.now n }
 {
     let mut place = first_place(page);
-    let mut r = 0;
-    while r < n {
+    for r in 0..n {
         place = place_after(row_from(page, r, place));
-        r += 1;
     }
     place
 }

@@ -31,13 +31,11 @@ pub fn head_place(row: u64, s: u16) -> u8
 {
     let n = head_count(row);
     let mut h = (row / 1099511627776) as u32;
-    let mut left = n;
-    while 0 < left {
+    for k in 0..n {
         if atoms::holds(s, (h % 16) as u8) {
-            return n - left + 1;
+            return k + 1;
         }
         h = h / 16;
-        left -= 1;
     }
     0
 }

@@ -26,15 +26,13 @@ fn rises_by(page: &[u8], step: u8, from: usize, n: u16) -> bool
     requires { from ≤ 6000000000 }
     ensures { result ≡ refusals.rises (scan.spaced page.now step from n) }
 {
-    let by = step as usize;
-    let mut i = from;
-    let mut left = n;
-    while 1 < left {
-        if fields::byte_at(page, i + by) <= fields::byte_at(page, i) {
+    let mut at = from;
+    for k in 1..n {
+        let next = at + usize::from(step);
+        if fields::byte_at(page, next) <= fields::byte_at(page, at) {
             return false;
         }
-        i += by;
-        left -= 1;
+        at = next;
     }
     true
 }
@@ -45,8 +43,8 @@ fn bodies_rise(page: &[u8], row: rows::Row) -> bool
 {
     let pos_at = row.place as usize + row.head as usize;
     let neg_at = pos_at + row.pos as usize;
-    let first = rises_by(page, 1, pos_at, row.pos as u16);
-    let second = rises_by(page, 1, neg_at, row.neg as u16);
+    let first = rises_by(page, 1, pos_at, u16::from(row.pos));
+    let second = rises_by(page, 1, neg_at, u16::from(row.neg));
     first & second
 }
 
@@ -67,13 +65,11 @@ pub fn rows_seen(page: &[u8]) -> Seen
     let mut place = rows::first_place(page);
     let mut fit = true;
     let mut rise = true;
-    let mut r: u16 = 0;
-    while r < total {
+    for r in 0..total {
         let row = rows::row_from(page, r, place);
         fit = fit & row_fits(row, fields::spare_byte(page, r));
         rise = rise & bodies_rise(page, row);
         place = rows::place_after(row);
-        r += 1;
     }
     let end = place == fields::pairs_at(page);
     Seen {
@@ -82,21 +78,15 @@ pub fn rows_seen(page: &[u8]) -> Seen
     }
 }
 
-// The n bytes from place `from` on are all below the number of atoms. Past the end all are 0, so one answer serves them.
+// The n bytes from place `from` on are all below the number of atoms.
 fn all_below(page: &[u8], from: u32, n: u32, atoms: u16) -> bool
     ensures { result ≡ every (refusals.is_below atoms) (literals page.now from n) }
 {
-    let mut i = from as usize;
-    let mut left = n;
-    while 0 < left {
-        if page.len() <= i {
-            return 0 < atoms;
-        }
-        if atoms <= page[i] as u16 {
+    let from = from as usize;
+    for k in 0..n as usize {
+        if atoms <= u16::from(fields::byte_at(page, from + k)) {
             return false;
         }
-        i += 1;
-        left -= 1;
     }
     true
 }
@@ -109,13 +99,13 @@ pub fn atoms_out(page: &[u8]) -> bool
     let literals = all_below(
         page,
         fields::literals_at(page),
-        fields::literal_count(page) as u32,
+        u32::from(fields::literal_count(page)),
         atoms,
     );
     let pairs = all_below(
         page,
         fields::pairs_at(page),
-        2 * (fields::pair_count(page) as u32),
+        2 * u32::from(fields::pair_count(page)),
         atoms,
     );
     !(literals & pairs)
@@ -126,17 +116,14 @@ fn apart_from(page: &[u8], one: u8, other: u8, from: usize, n: u16) -> bool
     requires { from ≤ 5000000000 }
     ensures { result ≡ every (refusals.apart (record { one = one; other = other })) (pairs_from page.now from n) }
 {
-    let mut i = from;
-    let mut left = n;
-    while 0 < left {
+    for k in 0..usize::from(n) {
+        let i = from + 2 * k;
         let a = fields::byte_at(page, i);
         let b = fields::byte_at(page, i + 1);
         let fine = (one != a) & ((one != b) & ((other != a) & (other != b)));
         if !fine {
             return false;
         }
-        i += 2;
-        left -= 1;
     }
     true
 }
@@ -145,17 +132,14 @@ fn apart_from(page: &[u8], one: u8, other: u8, from: usize, n: u16) -> bool
 fn pairs_hold(page: &[u8], from: u32, n: u16) -> bool
     ensures { result ≡ scan.pairs_hold (pairs_from page.now from n) }
 {
-    let mut i = from as usize;
-    let mut left = n;
-    while 0 < left {
+    for k in 0..n {
+        let i = from as usize + 2 * k as usize;
         let one = fields::byte_at(page, i);
         let other = fields::byte_at(page, i + 1);
         if other <= one {
             return false;
         }
-        i += 2;
-        left -= 1;
-        if !apart_from(page, one, other, i, left) {
+        if !apart_from(page, one, other, i + 2, n - k - 1) {
             return false;
         }
     }

@@ -22,10 +22,10 @@ pub fn other_form(page: &[u8]) -> bool
 pub fn out_of_range(page: &[u8]) -> bool
     ensures { result ≡ refusals.out_of_range page.now }
 {
-    let atoms = fields::atom_count(page) as usize;
-    let rows = fields::row_count(page) as usize;
-    let literals = fields::literal_count(page) as usize;
-    let pairs = fields::pair_count(page) as usize;
+    let atoms = usize::from(fields::atom_count(page));
+    let rows = usize::from(fields::row_count(page));
+    let literals = usize::from(fields::literal_count(page));
+    let pairs = usize::from(fields::pair_count(page));
     ranges::counts_out(atoms, rows, literals, pairs)
 }
 
@@ -33,11 +33,11 @@ pub fn out_of_range(page: &[u8]) -> bool
 pub fn misplaced(page: &[u8]) -> bool
     ensures { result ≡ refusals.misplaced page.now }
 {
-    let rows = fields::word_at(page, 10) as u32 == fields::rows_at(page);
-    let literals = fields::word_at(page, 12) as u32 == fields::literals_at(page);
-    let pairs = fields::word_at(page, 14) as u32 == fields::pairs_at(page);
+    let rows = u32::from(fields::word_at(page, 10)) == fields::rows_at(page);
+    let literals = u32::from(fields::word_at(page, 12)) == fields::literals_at(page);
+    let pairs = u32::from(fields::word_at(page, 14)) == fields::pairs_at(page);
     let whole = fields::word_at(page, 16);
-    let end = whole as u32 == fields::end_of(page);
-    let lent = whole as usize == page.len();
+    let end = u32::from(whole) == fields::end_of(page);
+    let lent = usize::from(whole) == page.len();
     !(rows & (literals & (pairs & (end & lent))))
 }

@@ -1,32 +1,35 @@
--- `rises_by` answers whether the bytes it steps over rise strictly. The bytes that are left decide what all of them decide, since
--- each one passed lies below its neighbour; the measure is how many are left. Assumes nothing.
-use Prim.Native.Nat.{◌-◌}
-use mathlib.Core.Path.{refl, sym, ◌∙◌}
+-- `rises_by` answers whether the bytes it steps over rise strictly. Assumes nothing.
+use Prim.Native.Nat.{◌+◌, ◌-◌}
+use mathlib.Core.Path.{◌≡◌, sym, ◌∙◌}
 use native.Mathlib.Omega.{arith}
 use Rattle.page.proofs.Scan.{rises_go, rises_stop, rises_end}
 use Rattle.page.proofs.accept.content.rises_by.Goals as goal
 
-pub loop-left-init : goal.loop-left-init
-loop-left-init c = (omega arith, refl)
+pub loop-k-init : goal.loop-k-init
+loop-k-init c =
+    let all : c.args.n + 1 - 1 ≡ c.args.n = omega arith in
+    record { near = omega arith; rest = rw all }
 
 pub returns-then-byte_at : goal.returns-then-byte_at
 returns-then-byte_at c =
-    let h = c.loop-left in
+    let h = c.loop-k in
     let a = c.args in
-    sym (h.invariant.1 ∙ rises_stop a.page.now a.step h.i h.left (h.left - 1) _ _ (omega arith) (omega arith)
-    c.byte_at-in-loop-left.ensures c.byte_at.ensures c.if-byte_at.true)
+    sym (h.invariant.rest ∙ rises_stop a.page.now a.step h.at (a.n + 1 - h.k) (a.n - h.k) _ _ (omega arith) (omega arith)
+    c.byte_at-in-loop-k.ensures (c.byte_at.ensures ∙ rw c.from.ensures) c.if-byte_at.true)
 
-pub loop-left-preserved : goal.loop-left-preserved
-loop-left-preserved c =
-    let h = c.loop-left in
-    let a = c.args in (
-      omega arith,
-      h.invariant.1 ∙ rises_go a.page.now a.step h.i h.left (h.left - 1) _ _ (omega arith) (omega arith)
-          c.byte_at-in-loop-left.ensures c.byte_at.ensures c.if-byte_at.false,
-    )
+pub loop-k-preserved : goal.loop-k-preserved
+loop-k-preserved c =
+    let h = c.loop-k in
+    let a = c.args in
+    let left : a.n + 1 - (h.k + 1) ≡ a.n - h.k = omega arith in
+    record {
+      near = omega (arith, c.ranges.step.fits, c.from.ensures, h.invariant.near);
+      rest = h.invariant.rest ∙ rises_go a.page.now a.step h.at (a.n + 1 - h.k) (a.n - h.k) _ _ (omega arith) (omega arith)
+          c.byte_at-in-loop-k.ensures (c.byte_at.ensures ∙ rw c.from.ensures) c.if-byte_at.false ∙ rw (left, c.from.ensures);
+    }
 
 pub returns : goal.returns
 returns c =
-    let h = c.loop-left in
+    let h = c.loop-k in
     let a = c.args in
-    sym (h.invariant.1 ∙ rises_end a.page.now a.step h.i h.left (omega arith))
+    sym (h.invariant.rest ∙ rises_end a.page.now a.step h.at (a.n + 1 - h.k) (omega arith))

@@ -15,6 +15,3 @@ invariant-loop-r l =
     (l.r ≤ l.total) × (l.place ≡ literal_place l.page l.r)
     × (every (row_fits l.page) (below (row_count l.page)) ≡ (l.fit && every (row_fits l.page) (numbers l.r (l.total - l.r))))
     × (every bodies_rise (rows_of l.page) ≡ (l.rise && every bodies_rise (rows_from l.page l.r l.place (l.total - l.r))))
-
-abbrev pub decreases-loop-r : goal.decreases-loop-r
-decreases-loop-r l = l.total - l.r
