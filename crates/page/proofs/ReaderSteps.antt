@@ -100,3 +100,17 @@ one_answer (Some r) (Some q) e = ap Some (ap row_in e)
 one_answer (Some r) None e = absurd (true≢false (ap (λ (s : Said). s.more) e))
 one_answer None (Some q) e = absurd (false≢true (ap (λ (s : Said). s.more) e))
 one_answer None None e = refl
+
+-- ---- a step of a reader: on where it gives a row, and else it stays
+module _ (page : List ℕ) (n : ℕ) where
+  pub row_before : has_row page n ≡ true → n < row_count page
+  unfolding has_row
+  row_before e = ltb-true n (row_count page) (yes_true (ltb n (row_count page)) (and_r (eqb (page_no page) 0) (ltb n (row_count page)) (true_yes e)))
+
+  pub step_on : has_row page n ≡ true → n + 1 ≡ number_after page n
+  unfolding number_after
+  step_on e = rw e
+
+  pub step_stays : has_row page n ≡ false → n ≡ number_after page n
+  unfolding number_after
+  step_stays e = rw e

@@ -1,5 +1,7 @@
 // The row reader: it stands on the lent page at a row number and moves forward one row at a time. Past the last row it says so and stays.
-ghost use Rattle.std.specs.Prelude.{◌≡◌};
+ghost use Rattle.std.specs.Prelude.{◌≡◌, ◌+◌, ◌-◌, ◌<◌, OnSome};
+ghost use Rattle.std.specs.Iterator.{at_most};
+ghost use Rattle.page.specs.Fields.{row_count};
 ghost use Rattle.page.specs.Refusals.{page_no};
 ghost use Rattle.page.specs.Answers.{no};
 ghost use Rattle.page.specs.Reader as reads;
@@ -31,22 +33,13 @@ fn has_row(page: &[u8], n: u16) -> bool
 
 // Row n of the page, by its number, or nothing. This is the function to call where no reader is kept.
 pub fn row_at(page: &[u8], n: u16) -> Option<Row>
-    ensures { reads.said result ≡ reads.row_said page.now n }
+    ensures row { reads.said result ≡ reads.row_said page.now n }
+    ensures next_fits { OnSome result (n + 1 < 65536) }
 {
     if has_row(page, n) {
         return Some(rows::row_from(page, n, rows::place_of(page, n)));
     }
     None
-}
-
-// The number after n where there is a row n; else n.
-fn after(page: &[u8], n: u16) -> u16
-    ensures { result ≡ reads.number_after page.now n }
-{
-    if has_row(page, n) {
-        return n + 1;
-    }
-    n
 }
 
 // Opens a page: whether it is accepted, and a reader at row 0. A refused page has no row, so there the reader is past its last one.
@@ -60,17 +53,17 @@ pub fn open<'a>(src: &'a [u8]) -> Opened<'a>
     }
 }
 
-// What stands where the reader is.
-pub fn next<'a>(r: Reader<'a>) -> Option<Row>
-    ensures { reads.said result ≡ reads.row_said r.entry.src.now r.entry.at }
-{
-    row_at(r.src, r.at)
-}
+// A step gives the row where the reader is, and the reader is then one row on. Past the last row it gives nothing, and the reader stays.
+impl<'a> Iterator for Reader<'a> {
+    type Item = Row;
 
-// The reader one row on; past the last row it stays.
-pub fn moved<'a>(r: Reader<'a>) -> Reader<'a>
-    ensures { (result.src ≡ r.entry.src) × (result.at ≡ reads.number_after r.entry.src.now r.entry.at) }
-{
-    let at = after(r.src, r.at);
-    Reader { src: r.src, at }
+    ghost next_gives = { λ s r t. (reads.said r ≡ reads.row_said s.src.now s.at) × (t.src ≡ s.src) × (t.at ≡ reads.number_after s.src.now s.at) };
+
+    ghost remaining = { λ s. at_most (row_count s.src.now - s.at) };
+
+    fn next(&mut self) -> Option<Row> {
+        let row = row_at(self.src, self.at)?;
+        self.at += 1;
+        Some(row)
+    }
 }
