@@ -1,5 +1,5 @@
--- A reading against the two infinities, and against itself: what the machine's comparisons say of the three kinds of reading. By cases on the
--- reading. Assumes nothing.
+-- What the library says of a reading, in this crate's words: whether it is finite, whether it is a NaN, and which patterns are a NaN's. By cases on
+-- the reading. Assumes nothing.
 use mathlib.Core.Path.{◌≡◌, refl, sym, ap, subst, ◌∙◌}
 use mathlib.Core.Bool.{Bool, true, not, false≢true}
 use Prim.Native.Nat.{ℕ, ◌%◌, ◌≤◌, ◌<◌}

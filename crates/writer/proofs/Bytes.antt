@@ -1,4 +1,4 @@
--- The bytes of a page that is made, by their places, as code stores them: two for each number of the header, four for each row, and the lists as they
+-- The bytes of a page that is made, as code stores them, part after part: two for each number of the header, four for each row, and the lists as they
 -- are. By induction on the lists. Assumes nothing.
 use mathlib.Core.Path.{◌≡◌, refl, sym, ap, ◌∙◌}
 use mathlib.Core.List.{List, [], ◌∷◌, ◌++◌, append_assoc}

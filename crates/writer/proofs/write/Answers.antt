@@ -61,7 +61,7 @@ returns c =
     let number = made_number _ _ _ _ _ _ (sym c.sizes_out.ensures ∙ c.if-sizes_out.false) c.fill.ensures end.ensures.0 (lent end.result end.ensures.1) c.page_no-no.ensures in
     let a = c.args in
     let s = given a.content.now in
-    let made = made_lent _ _ _ _ _ c.fill.ensures end.ensures.0 (lent end.result end.ensures.1) in
     let room : length (encode s) ≤ length a.buffer.now = omega (arith, end.ensures.0) in
+    let made = made_lent _ _ _ _ _ c.fill.ensures end.ensures.0 (lent end.result end.ensures.1) in
     write_made s _ _ number c.if-no-ne0.false room _ _ end.ensures.0
     (c.put.ensures ∙ ap (sets a.buffer.now 0) made ∙ over_sets (encode s) a.buffer.now room)
