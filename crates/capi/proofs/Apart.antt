@@ -3,7 +3,7 @@
 use mathlib.Core.Path.{◌≡◌, refl, subst}
 use mathlib.Core.Bool.{Bool, true, false, cond}
 use mathlib.Core.List.{List}
-use mathlib.Core.Option.{Option, some, none, none-ne-some, some-injective}
+use Rattle.std.specs.Prelude.{Option, Some, None}
 use Prim.Native.Nat.{ℕ, zero, suc, ◌/◌, ◌%◌, ◌<◌}
 use native.Mathlib.Omega.{arith}
 use lib.Dec.{T, eqb}
@@ -34,7 +34,7 @@ case_below (Second x) = omega arith
 case_below (Held x) = omega arith
 case_below NoNumber = omega arith
 
-module _ (n : ℕ) (s : Shown) (single : (x : Float) → reading_of s ≡ some x → T (fits binary32 x)) where
+module _ (n : ℕ) (s : Shown) (single : (x : Float) → reading_of s ≡ Some x → T (fits binary32 x)) where
   bits : ℕ
   bits = bits_of (reading_or nan (reading_of s))
 
@@ -42,9 +42,9 @@ module _ (n : ℕ) (s : Shown) (single : (x : Float) → reading_of s ≡ some x
   unfolding bits reading_or fits
   bits_below = go (reading_of s) single
     where
-      go : (o : Option Float) → ((x : Float) → o ≡ some x → T (fits binary32 x)) → bits_of (reading_or nan o) < 4294967296
-      go none f = to_bits-lt binary32 nan tt
-      go (some x) f = to_bits-lt binary32 x (f x refl)
+      go : (o : Option Float) → ((x : Float) → o ≡ Some x → T (fits binary32 x)) → bits_of (reading_or nan o) < 4294967296
+      go None f = to_bits-lt binary32 nan tt
+      go (Some x) f = to_bits-lt binary32 x (f x refl)
 
   pub shown_number : shown_word n s / 4294967296 / 65536 ≡ n
   unfolding shown_word word bits
@@ -66,23 +66,23 @@ module _ (live second held : Float) (l : T (fits binary32 live)) (m : T (fits bi
   pub says : Displayed
   says = displayed (display_no readings page flags) (shown_by readings page flags)
 
-  same : (y : Float) → T (fits binary32 y) → (x : Float) → some y ≡ some x → T (fits binary32 x)
-  same y f x e = subst (λ (z : Float). T (fits binary32 z)) (some-injective y x e) f
+  same : (y : Float) → T (fits binary32 y) → (x : Float) → Some y ≡ Some x → T (fits binary32 x)
+  same y f x e = let q : y ≡ x = cc in subst (λ (z : Float). T (fits binary32 z)) q f
 
-  single_at : (a : ℕ) (x : Float) → reading_of (shown_at a readings) ≡ some x → T (fits binary32 x)
+  single_at : (a : ℕ) (x : Float) → reading_of (shown_at a readings) ≡ Some x → T (fits binary32 x)
   unfolding readings reading_of shown_at
   single_at zero x e = same live l x e
   single_at (suc zero) x e = same second m x e
   single_at (suc (suc zero)) x e = same held h x e
-  single_at (suc (suc (suc a))) x e = absurd (none-ne-some x e)
+  single_at (suc (suc (suc a))) x e = cc
 
-  single : (x : Float) → reading_of says.shown ≡ some x → T (fits binary32 x)
+  single : (x : Float) → reading_of says.shown ≡ Some x → T (fits binary32 x)
   unfolding says displayed shown_by shown_of reading_of
   single x e = go (eqb (display_no readings page flags) 0) e
     where
-      go : (b : Bool) → reading_of (cond b (shown_at (first_of (outcomes (pick_set page flags))) readings) NoNumber) ≡ some x → T (fits binary32 x)
+      go : (b : Bool) → reading_of (cond b (shown_at (first_of (outcomes (pick_set page flags))) readings) NoNumber) ≡ Some x → T (fits binary32 x)
       go true e = single_at (first_of (outcomes (pick_set page flags))) x e
-      go false e = absurd (none-ne-some x e)
+      go false e = cc
 
   pub display_apart : let w = display_word live second held page flags in
       (w / 4294967296 / 65536 ≡ says.no) × (w / 4294967296 % 65536 ≡ case_value says.shown) × (w % 4294967296 ≡ bits_of (reading_or nan (reading_of says.shown)))

@@ -111,7 +111,13 @@ pub extern "C" fn pipeotter_write(
 ) -> u32
     ensures { means.PageGiven (content atoms rows.now literals.now pairs.now) buffer.old result buffer.new }
 {
-    let r = writer::write(atoms, rows, literals, pairs, &mut *buffer);
+    let content = writer::Content {
+        atoms,
+        rows,
+        literals,
+        pairs,
+    };
+    let r = writer::write(&content, &mut *buffer);
     word(r.no, r.length)
 }
 

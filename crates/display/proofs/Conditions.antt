@@ -3,7 +3,7 @@
 use mathlib.Core.Path.{◌≡◌, refl, sym, ◌∙◌}
 use mathlib.Core.Bool.{Bool, true, false, ◌||◌, not, true≢false}
 use mathlib.Core.Logic.{◌⊎◌, inl, inr}
-use mathlib.Core.Option.{Option, some, none}
+use Rattle.std.specs.Prelude.{Option, Some, None}
 use Prim.Native.Nat.{ℕ, ◌≤◌, ◌<◌}
 use lib.Dec.{ltb}
 use lib.Ieee.{Float, nan, inf, fin}
@@ -55,7 +55,7 @@ module _ (atoms set : ℕ) where
 pub only_first : (set a : ℕ) → OnlyOutcome set a → first_of (outcomes set) ≡ a
 only_first set a o = let f = one_is_only set (only_is_one set a o) in o.alone (first_of (outcomes set)) f.outcome f.held
 
-pub unfit_says : (s : Shown) → unfit s ≡ true → (x : Float) × ((reading_of s ≡ some x) × NotFinite x)
+pub unfit_says : (s : Shown) → unfit s ≡ true → (x : Float) × ((reading_of s ≡ Some x) × NotFinite x)
 unfolding unfit fit finite
 unfit_says s t = go (reading_of s) refl t
   where
@@ -64,11 +64,11 @@ unfit_says s t = go (reading_of s) refl t
     bad (inf s) e = inr (s, refl)
     bad (fin s m e) f = absurd (true≢false (sym f))
 
-    go : (o : Option Float) → reading_of s ≡ o → not (fit o) ≡ true → (x : Float) × ((reading_of s ≡ some x) × NotFinite x)
-    go none e t = absurd (true≢false (sym t))
-    go (some x) e t = (x, (e, bad x t))
+    go : (o : Option Float) → reading_of s ≡ o → not (fit o) ≡ true → (x : Float) × ((reading_of s ≡ Some x) × NotFinite x)
+    go None e t = absurd (true≢false (sym t))
+    go (Some x) e t = (x, (e, bad x t))
 
-pub says_unfit : (s : Shown) (x : Float) → reading_of s ≡ some x → NotFinite x → unfit s ≡ true
+pub says_unfit : (s : Shown) (x : Float) → reading_of s ≡ Some x → NotFinite x → unfit s ≡ true
 unfolding unfit fit finite
 says_unfit s x e (inl f) = rw (e, f)
 says_unfit s x e (inr f) = rw (e, f.1)

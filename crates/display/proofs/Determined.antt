@@ -5,6 +5,7 @@ use mathlib.Core.List.{List}
 use Prim.Native.Nat.{ℕ}
 use lib.Ieee.{Float, nan}
 use Rattle.engine.proofs.Determined.{one_answer}
+use Rattle.std.specs.Prelude.{Option}
 use Rattle.display.specs.Readings as means
 use Rattle.display.specs.Shows.{reading_of, reading_or, DisplaySays}
 use Rattle.display.specs.declared.Readings.{Readings}
@@ -13,6 +14,9 @@ use Rattle.display.specs.declared.Displayed.{Displayed}
 
 pub display : (r : Readings) (page : List ℕ) (flags : ℕ) (x y : Displayed) → DisplaySays r page flags x → DisplaySays r page flags y → x ≡ y
 display r page flags x y = one_answer
+
+pub reading : (shown : Shown) (x y : Option Float) → x ≡ reading_of shown → y ≡ reading_of shown → x ≡ y
+reading shown x y = one_answer
 
 pub reading_of_lem : (shown : Shown) (x y : Float) → x ≡ reading_or nan (reading_of shown) → y ≡ reading_or nan (reading_of shown) → x ≡ y
 reading_of_lem shown x y = one_answer

@@ -4,7 +4,7 @@ use mathlib.Core.Path.{◌≡◌, refl, sym, ap, ◌∙◌, subst}
 use mathlib.Core.Bool.{Bool, true, false, not, cond, true≢false}
 use mathlib.Core.Logic.{◌⊎◌, ◌↔◌}
 use mathlib.Core.List.{List, ◌++◌}
-use mathlib.Core.Option.{Option, some, none, none-ne-some, some-injective}
+use Rattle.std.specs.Prelude.{Option, Some, None}
 use Prim.Native.Nat.{ℕ, zero, suc, ◌^◌, ◌≤◌, ◌<◌}
 use native.Mathlib.Omega.{arith}
 use native.Mathlib.Decide.{ℕ_discrete}
@@ -33,7 +33,7 @@ use Rattle.display.proofs.Turns.{pick_numbered, own_number, pick_number}
 
 -- ---- what the code has in hand, of three readings
 module _ (r : Readings) where
-  outcome_at : (a : ℕ) → a < 4 → outcome_of 0 (shown_at a r) ≡ some a
+  outcome_at : (a : ℕ) → a < 4 → outcome_of 0 (shown_at a r) ≡ Some a
   unfolding outcome_of shown_at
   outcome_at zero l = refl
   outcome_at (suc zero) l = refl
@@ -95,7 +95,7 @@ module _ (r : Readings) (page : List ℕ) (flags : ℕ) (d : Displayed) (says : 
   )
 
   pub given_15 : pick_no page flags ≡ 0 → 4 ≤ atoms → (a : ℕ) → OnlyOutcome set a
-      → (d.no ≡ 15) ↔ ((x : Float) × ((reading_of (shown_at a r) ≡ some x) × NotFinite x))
+      → (d.no ≡ 15) ↔ ((x : Float) × ((reading_of (shown_at a r) ≡ Some x) × NotFinite x))
   unfolding shown_by shown_of
   given_15 z l a o =
       let s : shown_by r page flags ≡ shown_at a r = ap (λ (b : ℕ). shown_at b r) (only_first set a o) in
@@ -108,11 +108,11 @@ module _ (r : Readings) (page : List ℕ) (flags : ℕ) (d : Displayed) (says : 
   unfolding displayed
   blank z = ap (λ (x : Displayed). x.shown) says ∙ where_refused (display_no r page flags) (shown_by r page flags) NoNumber (λ e. z (number ∙ e))
 
-  pub refused_blank : (d.no ≡ 0 → ⊥) → ((said d).outcome ≡ none) × ((said d).reading ≡ none)
+  pub refused_blank : (d.no ≡ 0 → ⊥) → ((said d).outcome ≡ None) × ((said d).reading ≡ None)
   unfolding said outcome_of reading_of
   refused_blank z = rw (blank z) (go d.no z, refl)
     where
-      go : (n : ℕ) → (n ≡ 0 → ⊥) → outcome_of n NoNumber ≡ none
+      go : (n : ℕ) → (n ≡ 0 → ⊥) → outcome_of n NoNumber ≡ None
       go zero z = absurd (z refl)
       go (suc n) z = refl
 
@@ -130,7 +130,7 @@ module _ (r : Readings) (page : List ℕ) (flags : ℕ) (d : Displayed) (says : 
   shown_is z = ap (λ (x : Displayed). x.shown) says ∙ where_accepted (display_no r page flags) (shown_by r page flags) NoNumber (sym number ∙ z)
 
   -- it is the one outcome that the pick holds, with its reading
-  pub shown_only : d.no ≡ 0 → (a : ℕ) × (OnlyOutcome set a × ((said d).outcome ≡ some a) × ((said d).reading ≡ reading_of (shown_at a r)))
+  pub shown_only : d.no ≡ 0 → (a : ℕ) × (OnlyOutcome set a × ((said d).outcome ≡ Some a) × ((said d).reading ≡ reading_of (shown_at a r)))
   unfolding said shown_by shown_of
   shown_only z =
       let a = first_of (outcomes set) in
@@ -157,19 +157,19 @@ module _ (r : Readings) (page : List ℕ) (flags : ℕ) (d : Displayed) (says : 
 
   -- ---- the shown number
   -- where a number is shown, the call is accepted, and the number is the chosen reading
-  pub shown_accepted : (x : Float) → (said d).reading ≡ some x → d.no ≡ 0
+  pub shown_accepted : (x : Float) → (said d).reading ≡ Some x → d.no ≡ 0
   shown_accepted x e = go (ℕ_discrete d.no 0)
     where
       go : Dec (d.no ≡ 0) → d.no ≡ 0
       go (yes z) = z
-      go (no n) = absurd (none-ne-some x (sym (refused_blank n).1 ∙ e))
+      go (no n) = let none = (refused_blank n).1 in cc
 
-  pub shown_reading : (x : Float) → (said d).reading ≡ some x → reading_of (shown_by r page flags) ≡ some x
+  pub shown_reading : (x : Float) → (said d).reading ≡ Some x → reading_of (shown_by r page flags) ≡ Some x
   unfolding said
   shown_reading x e = ap reading_of (sym (shown_is (shown_accepted x e))) ∙ e
 
   -- it is finite: neither an infinity nor a NaN is ever shown
-  pub shown_finite : (x : Float) → (said d).reading ≡ some x → T (finite x)
+  pub shown_finite : (x : Float) → (said d).reading ≡ Some x → T (finite x)
   unfolding unfit fit
   shown_finite x e =
       true_yes (not-false (finite x) (sym (ap (λ (o : Option Float). not (fit o)) (shown_reading x e)) ∙ (accepted (shown_accepted x e)).2))
@@ -181,9 +181,9 @@ module _ (r : Readings) (page : List ℕ) (flags : ℕ) (d : Displayed) (says : 
   finite_number (fin s m e) t = tt
 
   -- it has the very bits of the chosen reading
-  pub shown_bits : (n : ℕ) → n < 2 ^ 32 → reading_of (shown_by r page flags) ≡ some (of_word n) → (x : Float) → (said d).reading ≡ some x → bits_of x ≡ n
+  pub shown_bits : (n : ℕ) → n < 2 ^ 32 → reading_of (shown_by r page flags) ≡ Some (of_word n) → (x : Float) → (said d).reading ≡ Some x → bits_of x ≡ n
   shown_bits n w c x e =
-      let q : x ≡ of_word n = some-injective x (of_word n) (sym (shown_reading x e) ∙ c) in
+      let shown = shown_reading x e in let q : x ≡ of_word n = cc in
       ap bits_of q ∙ to_bits-of_bits binary32 n w (finite_number (of_word n) (subst (λ (y : Float). T (finite y)) q (shown_finite x e)))
 
 -- ---- two calls that differ only in readings that are not chosen show the same, whatever those readings are

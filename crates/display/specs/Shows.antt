@@ -1,6 +1,5 @@
 -- What stands on the display. Atoms 0 to 3 are the outcomes live, second, held and none.
-use Rattle.std.specs.Prelude.{◌≡◌, Bool, true, ◌||◌, not, cond, List, [], ◌∷◌, ◌++◌, ℕ, zero, suc, eqb, ltb, length, Float}
-use Rattle.std.proofs.Math.Option.{Option, some, none}
+use Rattle.std.specs.Prelude.{◌≡◌, Bool, true, ◌||◌, not, cond, List, [], ◌∷◌, ◌++◌, ℕ, zero, suc, eqb, ltb, length, Float, Option, Some, None}
 use Rattle.atoms.specs.Atoms.{has}
 use Rattle.lpod.specs.Lists.{keep, below}
 use Rattle.lpod.specs.Best.{pick}
@@ -40,15 +39,15 @@ shown_of set r = shown_at (first_of (outcomes set)) r
 
 -- the reading that a case shows
 unfoldable pub reading_of : Shown → Option Float
-reading_of (Live x) = some x
-reading_of (Second x) = some x
-reading_of (Held x) = some x
-reading_of NoNumber = none
+reading_of (Live x) = Some x
+reading_of (Second x) = Some x
+reading_of (Held x) = Some x
+reading_of NoNumber = None
 
 -- the same, and d where there is none
 unfoldable pub reading_or : Float → Option Float → Float
-reading_or d none = d
-reading_or d (some x) = x
+reading_or d None = d
+reading_or d (Some x) = x
 
 -- ---- what an answer says, case by case: its number; the outcome that is shown, by its atom, and none where the call is refused; the reading
 pub record Said : Type 0 where
@@ -57,11 +56,11 @@ pub record Said : Type 0 where
   pub reading : Option Float
 
 unfoldable pub outcome_of : ℕ → Shown → Option ℕ
-outcome_of n (Live x) = some 0
-outcome_of n (Second x) = some 1
-outcome_of n (Held x) = some 2
-outcome_of zero NoNumber = some 3
-outcome_of (suc n) NoNumber = none
+outcome_of n (Live x) = Some 0
+outcome_of n (Second x) = Some 1
+outcome_of n (Held x) = Some 2
+outcome_of zero NoNumber = Some 3
+outcome_of (suc n) NoNumber = None
 
 unfoldable pub said : Displayed → Said
 said d = record { number = d.no; outcome = outcome_of d.no d.shown; reading = reading_of d.shown }
@@ -73,8 +72,8 @@ lacks_outcome atoms set = ltb atoms 4 || not (one_chosen set)
 
 -- 15: the chosen reading is infinite or not a number
 unfoldable pub fit : Option Float → Bool
-fit none = true
-fit (some x) = finite x
+fit None = true
+fit (Some x) = finite x
 
 unfoldable pub unfit : Shown → Bool
 unfit s = not (fit (reading_of s))

@@ -9,7 +9,7 @@ ghost use Rattle.display.specs.Shows as means;
 pub mod reading;
 
 // The three current readings in NTU.
-#[derive(Clone, Copy)]
+#[derive(Clone, Copy, Debug, PartialEq)]
 pub struct Readings {
     pub live: f32,
     pub second: f32,
@@ -17,7 +17,7 @@ pub struct Readings {
 }
 
 // What stands on the display: one of the readings, or no number.
-#[derive(Clone, Copy)]
+#[derive(Clone, Copy, Debug, PartialEq)]
 pub enum Shown {
     Live(f32),
     Second(f32),
@@ -32,50 +32,64 @@ pub struct Displayed {
     pub shown: Shown,
 }
 
-// An outcome with its reading.
-fn shown_at(outcome: u32, readings: Readings) -> Shown
-    ensures { result ≡ means.shown_at outcome readings }
-{
-    let live = readings.live;
-    let second = readings.second;
-    let held = readings.held;
-    match outcome {
-        0 => Shown::Live(live),
-        1 => Shown::Second(second),
-        2 => Shown::Held(held),
-        _ => Shown::NoNumber,
+impl Readings {
+    // An outcome with its reading.
+    #[tactic(auto, using(crate::proofs::OneOutcome::last_outcome), unfolding(crate::specs::Shows::shown_at))]
+    fn shown_at(self, outcome: u32) -> Shown
+        ensures { result ≡ means.shown_at outcome self }
+    {
+        match outcome {
+            0 => Shown::Live(self.live),
+            1 => Shown::Second(self.second),
+            2 => Shown::Held(self.held),
+            _ => Shown::NoNumber,
+        }
+    }
+
+    // The outcome that the set holds, with its reading; the lowest where it holds several.
+    #[tactic(auto, using(crate::proofs::OneOutcome::lowest_chosen), unfolding(crate::specs::Shows::shown_of))]
+    fn shown_of(self, set: u16) -> Shown
+        ensures { result ≡ means.shown_of set self }
+    {
+        self.shown_at(atoms::lowest(atoms::common(set, 15)))
+    }
+}
+
+impl Shown {
+    // The reading that is shown, where there is one.
+    #[tactic(auto, unfolding(crate::specs::Shows::reading_of))]
+    pub fn reading(self) -> Option<f32>
+        ensures { result ≡ means.reading_of self }
+    {
+        match self {
+            Shown::Live(x) | Shown::Second(x) | Shown::Held(x) => Some(x),
+            Shown::NoNumber => None,
+        }
+    }
+
+    // Its number is neither infinite nor not a number, or it has none.
+    #[tactic(auto, unfolding(crate::specs::Shows::fit))]
+    fn is_fit(self) -> bool
+        ensures { result ≡ means.fit (means.reading_of self) }
+    {
+        self.reading().is_none_or(reading::is_finite)
     }
 }
 
 // The reading that is shown; a NaN where none is.
+#[tactic(auto, unfolding(crate::specs::Shows::reading_or))]
 pub fn reading_of(shown: Shown) -> f32
     ensures { result ≡ means.reading_or nan (means.reading_of shown) }
 {
-    match shown {
-        Shown::Live(x) => x,
-        Shown::Second(x) => x,
-        Shown::Held(x) => x,
-        Shown::NoNumber => reading::not_a_number(),
-    }
-}
-
-// Its number is neither infinite nor not a number, or it has none.
-fn is_fit(shown: Shown) -> bool
-    ensures { result ≡ means.fit (means.reading_of shown) }
-{
-    match shown {
-        Shown::Live(x) => reading::is_finite(x),
-        Shown::Second(x) => reading::is_finite(x),
-        Shown::Held(x) => reading::is_finite(x),
-        Shown::NoNumber => true,
-    }
+    shown.reading().unwrap_or(reading::not_a_number())
 }
 
 // Where one outcome is chosen: 15 if its reading is infinite or not a number, else what it shows.
+#[tactic(auto, unfolding(crate::specs::Shows::displayed, crate::specs::Shows::fit_no, crate::specs::Shows::unfit, page::specs::Refusals::first_that))]
 fn fitted(shown: Shown) -> Displayed
     ensures { result ≡ means.displayed (means.fit_no shown) shown }
 {
-    if is_fit(shown) {
+    if shown.is_fit() {
         return Displayed { no: 0, shown };
     }
     Displayed {
@@ -85,17 +99,11 @@ fn fitted(shown: Shown) -> Displayed
 }
 
 // A page of so many atoms whose pick is the set shows nothing: fewer than four, or not exactly one of the four in the set.
+#[tactic(auto, using(crate::proofs::OneOutcome::how_many_chosen), unfolding(crate::specs::Shows::lacks_outcome, crate::specs::Shows::one_chosen))]
 fn lacks_outcome(count: u16, set: u16) -> bool
     ensures { result ≡ means.lacks_outcome count set }
 {
     (count < 4) | (atoms::how_many(atoms::common(set, 15)) != 1)
-}
-
-// The outcome that the set holds, with its reading; the lowest where it holds several.
-fn shown_of(set: u16, readings: Readings) -> Shown
-    ensures { result ≡ means.shown_of set readings }
-{
-    shown_at(atoms::lowest(atoms::common(set, 15)), readings)
 }
 
 // The refusals of the pick, then 14 where the page has fewer than four atoms or the pick does not hold exactly one of the four, then 15 where the
@@ -117,5 +125,5 @@ pub fn display(readings: Readings, page: &[u8], flags: u16) -> Displayed
             shown: blank,
         };
     }
-    fitted(shown_of(picked.set, readings))
+    fitted(readings.shown_of(picked.set))
 }

@@ -1,88 +1,19 @@
--- The bytes of a page that is made, by their places, as code stores them: two for each number of the header, four for each row, and the lists as they
+-- The bytes of a page that is made, as code stores them, part after part: two for each number of the header, four for each row, and the lists as they
 -- are. By induction on the lists. Assumes nothing.
 use mathlib.Core.Path.{◌≡◌, refl, sym, ap, ◌∙◌}
-use mathlib.Core.List.{List, [], ◌∷◌, ◌++◌}
+use mathlib.Core.List.{List, [], ◌∷◌, ◌++◌, append_assoc}
 use Prim.Native.Nat.{ℕ, zero, suc, ◌+◌, ◌*◌, ◌/◌, ◌%◌, ◌≤◌, ◌<◌}
 use native.Mathlib.Nat.{add-zero, add-suc, suc-add}
 use native.Mathlib.Numerals.{add-one}
 use native.Mathlib.Omega.{arith}
-use lib.Dec.{T, leb}
-use lib.ListN.{length, drop, set, length-append, length-set, drop_of_length-le}
-use lib.Seq.{sets, length-sets, drop-cons}
-use borrow.Author.Tests.{leb-true, le-leb}
-use Rattle.atoms.proofs.Truth.{yes_true, true_yes, and_l, and_r}
-use Rattle.lpod.specs.Lists.{every}
-use Rattle.page.specs.Fields.{byte_at}
-use Rattle.page.proofs.Accepted.{InRanges}
+use lib.ListN.{length, set, take, drop, get_or, length-append}
+use lib.Seq.{sets, sets-eq, length-sets, drop-cons}
+use borrow.Rule.Slice.PartMut.{post_of}
+use Rattle.std.proofs.lemmas.List.{drop-drop}
+use Rattle.std.specs.Simd.{first_chunks}
 use Rattle.lanes.specs.Entries.{over}
 use Rattle.lanes.proofs.Stored.{over_sets}
 use Rattle.writer.specs.Content.{Content, row_total, header_fields, two_bytes, four_bytes, header, parts, encode}
-
--- ---- two bytes for a number
-pub low_byte : (l : List ℕ) (i : ℕ) → i % 2 ≡ 0 → byte_at (two_bytes l) i ≡ byte_at l (i / 2) % 256
-unfolding two_bytes
-low_byte [] i e = refl
-low_byte (n ∷ l) zero e = refl
-low_byte (n ∷ l) (suc zero) e = absurd (omega arith)
-low_byte (n ∷ l) (suc (suc i)) e =
-    let h : suc (suc i) / 2 ≡ suc (i / 2) = omega arith in
-    rw h (low_byte l i (omega arith))
-
-pub high_byte : (l : List ℕ) (i : ℕ) → (i % 2 ≡ 0 → ⊥) → byte_at (two_bytes l) i ≡ byte_at l (i / 2) / 256
-unfolding two_bytes
-high_byte [] i e = refl
-high_byte (n ∷ l) zero e = absurd (e refl)
-high_byte (n ∷ l) (suc zero) e = refl
-high_byte (n ∷ l) (suc (suc i)) e =
-    let h : suc (suc i) / 2 ≡ suc (i / 2) = omega arith in
-    rw h (high_byte l i (λ z. e (omega arith)))
-
--- no number of the header is above the length of the longest page
-most : (l : List ℕ) (m i : ℕ) → T (every (λ n. leb n m) l) → byte_at l i ≤ m
-unfolding every
-most [] m i t = omega arith
-most (n ∷ l) m zero t = leb-true n m (yes_true (leb n m) (and_l (leb n m) (every (λ n. leb n m) l) t))
-most (n ∷ l) m (suc i) t = most l m i (and_r (leb n m) (every (λ n. leb n m) l) t)
-
-pub fields_most : (atoms rows literals pairs i : ℕ) → InRanges atoms rows literals pairs → byte_at (header_fields atoms rows literals pairs) i ≤ 866
-unfolding header_fields every
-fields_most atoms rows literals pairs i n =
-    most (header_fields atoms rows literals pairs) 866 i
-    (true_yes {a = every (λ n. leb n 866) (header_fields atoms rows literals pairs)} (rw (
-      le-leb atoms 866 (omega (arith, n.atoms_most)),
-      le-leb rows 866 (omega (arith, n.rows_most)),
-      le-leb literals 866 (omega (arith, n.literals_most)),
-      le-leb pairs 866 (omega (arith, n.pairs_most)),
-      le-leb (18 + 4 * rows) 866 (omega (arith, n.rows_most)),
-      le-leb (18 + 4 * rows + literals) 866 (omega (arith, n.rows_most, n.literals_most)),
-      le-leb (18 + 4 * rows + literals + 2 * pairs) 866 (omega (arith, n.rows_most, n.literals_most, n.pairs_most)),
-    )))
-
--- ---- four bytes for a row
-pub count_byte : (l : List ℕ) (i : ℕ) → i % 4 < 3 → i < 4 * (length l / 3) → byte_at (four_bytes l) i ≡ byte_at l (3 * (i / 4) + i % 4)
-unfolding four_bytes
-count_byte [] i k h = absurd (omega arith)
-count_byte (a ∷ []) i k h = absurd (omega arith)
-count_byte (a ∷ b ∷ []) i k h = absurd (omega arith)
-count_byte (a ∷ b ∷ c ∷ l) zero k h = refl
-count_byte (a ∷ b ∷ c ∷ l) (suc zero) k h = refl
-count_byte (a ∷ b ∷ c ∷ l) (suc (suc zero)) k h = refl
-count_byte (a ∷ b ∷ c ∷ l) (suc (suc (suc zero))) k h = absurd (omega arith)
-count_byte (a ∷ b ∷ c ∷ l) (suc (suc (suc (suc i)))) k h =
-    let j = suc (suc (suc (suc i))) in
-    let e : 3 * (j / 4) + j % 4 ≡ suc (suc (suc (3 * (i / 4) + i % 4))) = omega arith in
-    rw e (count_byte l i (omega arith) (omega arith))
-
-pub zero_byte : (l : List ℕ) (i : ℕ) → 3 ≤ i % 4 → byte_at (four_bytes l) i ≡ 0
-unfolding four_bytes
-zero_byte [] i k = refl
-zero_byte (a ∷ []) i k = refl
-zero_byte (a ∷ b ∷ []) i k = refl
-zero_byte (a ∷ b ∷ c ∷ l) zero k = absurd (omega arith)
-zero_byte (a ∷ b ∷ c ∷ l) (suc zero) k = absurd (omega arith)
-zero_byte (a ∷ b ∷ c ∷ l) (suc (suc zero)) k = absurd (omega arith)
-zero_byte (a ∷ b ∷ c ∷ l) (suc (suc (suc zero))) k = refl
-zero_byte (a ∷ b ∷ c ∷ l) (suc (suc (suc (suc i)))) k = zero_byte l i (omega arith)
 
 -- ---- how long the parts are
 pub length_fields : (atoms rows literals pairs : ℕ) → length (two_bytes (header_fields atoms rows literals pairs)) ≡ 18
@@ -112,31 +43,66 @@ length_page c =
       length_rows c.rows,
     )
 
--- ---- bytes stored one after the other, from place `at` on: so many are there, the rest is to come
-pub record Stored (all : List ℕ) (at : ℕ) (out₀ out : List ℕ) (i : ℕ) : Type 0 where
-  pub same : length out ≡ length out₀
-  pub rest : sets out₀ at all ≡ sets out (at + i) (drop i all)
-
-pub stored_none : (all out : List ℕ) (at : ℕ) → Stored all at out out 0
-stored_none all out at = record { same = refl; rest = rw add-zero }
-
-module _ {all out₀ out : List ℕ} {at i : ℕ} (s : Stored all at out₀ out i) where
-  pub stored_more : (b : ℕ) → i < length all → b ≡ byte_at all i → (out' : List ℕ) → out' ≡ set out (at + i) b → Stored all at out₀ out' (i + 1)
-  stored_more b l e out' eo = record {
-    same = ap length eo ∙ length-set out (at + i) b ∙ s.same;
-    rest = s.rest ∙ rw (drop-cons all i 0 l, ← e, eo, add-one, add-suc);
-  }
-
-  pub stored_all : length all ≤ i → out ≡ sets out₀ at all
-  stored_all l = sym (s.rest ∙ ap (sets out (at + i)) (drop_of_length-le all {i = i} l))
+-- ---- a part copied into its place
+pub copied : (out part : List ℕ) (at n : ℕ) → n ≡ length part → at + length part ≤ length out → take at out ++ (part ++ post_of at n out) ≡ sets out at part
+copied out part at n e room = rw (e, drop-drop (length part) at out) (sym (sets-eq part out at room ∙ append_assoc (take at out) part (drop (at + length part) out)))
 
 -- one part after the other
-pub sets_append : (out : List ℕ) (at : ℕ) (a b : List ℕ) → sets out at (a ++ b) ≡ sets (sets out at a) (at + length a) b
-sets_append out at [] b = rw add-zero
-sets_append out at (x ∷ a) b = sets_append (set out at x) (suc at) a b ∙ rw (suc-add, add-suc)
+pub sets_append : (a b out : List ℕ) (at : ℕ) → sets out at (a ++ b) ≡ sets (sets out at a) (at + length a) b
+sets_append [] b out at = rw add-zero
+sets_append (x ∷ a) b out at = sets_append a b (set out at x) (suc at) ∙ rw (suc-add, add-suc)
 
 pub sets_keep : (at : ℕ) (vs after out : List ℕ) → after ≡ sets out at vs → length after ≡ length out
 sets_keep at vs after out e = ap length e ∙ length-sets out at vs
+
+-- ---- parts stored one after the other: all of them from place `at` on make what is left now, from `here` on
+pub record Left (all : List ℕ) (at : ℕ) (out₀ out : List ℕ) (here : ℕ) (rest : List ℕ) : Type 0 where
+  pub same : length out ≡ length out₀
+  pub left : sets out₀ at all ≡ sets out here rest
+
+pub left_all : (all out : List ℕ) (at : ℕ) → Left all at out out at all
+left_all all out at = record { same = refl; left = refl }
+
+module _ {all out₀ out rest : List ℕ} {at here : ℕ} (s : Left all at out₀ out here rest) where
+  pub left_more : (part later : List ℕ) → rest ≡ part ++ later → (out' : List ℕ) → out' ≡ sets out here part → (there : ℕ) → there ≡ here + length part
+      → Left all at out₀ out' there later
+  left_more part later e out' eo there et = record {
+    same = sets_keep here part out' out eo ∙ s.same;
+    left = s.left ∙ rw (e, eo, et) (sets_append part later out here);
+  }
+
+  pub left_none : rest ≡ [] → out ≡ sets out₀ at all
+  left_none e = sym (s.left ∙ rw e)
+
+-- the numbers of the header that are left from number i on
+pub two_more : (l : List ℕ) (i : ℕ) → i < length l → two_bytes (drop i l) ≡ (get_or l i 0 % 256 ∷ get_or l i 0 / 256 ∷ []) ++ two_bytes (drop (i + 1) l)
+unfolding two_bytes
+two_more l i h = rw (drop-cons l i 0 h, add-one)
+
+-- two bytes, as they are taken from a number of 16 bits
+pub two_taken : (n : ℕ) → n < 65536 → n % 256 ∷ n / 256 % 256 ∷ [] ≡ n % 256 ∷ n / 256 ∷ []
+two_taken n h = let e : n / 256 % 256 ≡ n / 256 = omega arith in rw e
+
+-- rows of three counts, each with a zero after it
+unfoldable pub padded : List (List ℕ) → List ℕ
+padded [] = []
+padded (row ∷ rows) = get_or row 0 0 ∷ get_or row 1 0 ∷ get_or row 2 0 ∷ 0 ∷ padded rows
+
+pub padded_rows : (l : List ℕ) (n : ℕ) → n ≡ length l / 3 → padded (first_chunks 3 n l) ≡ four_bytes l
+unfolding padded four_bytes
+padded_rows [] zero e = refl
+padded_rows [] (suc n) e = absurd (omega arith)
+padded_rows (a ∷ []) zero e = refl
+padded_rows (a ∷ []) (suc n) e = absurd (omega arith)
+padded_rows (a ∷ b ∷ []) zero e = refl
+padded_rows (a ∷ b ∷ []) (suc n) e = absurd (omega arith)
+padded_rows (a ∷ b ∷ c ∷ l) zero e = absurd (omega arith)
+padded_rows (a ∷ b ∷ c ∷ l) (suc n) e = rw (padded_rows l n (omega arith))
+
+pub padded_more : (rows : List (List ℕ)) (i : ℕ) → i < length rows
+    → let row = get_or rows i [] in padded (drop i rows) ≡ (get_or row 0 0 ∷ get_or row 1 0 ∷ get_or row 2 0 ∷ 0 ∷ []) ++ padded (drop (i + 1) rows)
+unfolding padded
+padded_more rows i h = rw (drop-cons rows i [] h, add-one)
 
 -- the four parts are the page
 pub parts_page : (c : Content) (out a b d e : List ℕ) → length (encode c) ≤ length out → a ≡ sets out 0 (header c) → b ≡ sets a 18 (four_bytes c.rows)
@@ -145,9 +111,9 @@ unfolding encode
 parts_page c out a b d e room ea eb ed ee =
     let tail = c.literals ++ c.pairs in
     let one : sets out 0 (header c ++ (four_bytes c.rows ++ tail)) ≡ sets a 18 (four_bytes c.rows ++ tail)
-    = sets_append out 0 (header c) (four_bytes c.rows ++ tail) ∙ rw (length_header c, ← ea) in
+    = sets_append (header c) (four_bytes c.rows ++ tail) out 0 ∙ rw (length_header c, ← ea) in
     let two : sets a 18 (four_bytes c.rows ++ tail) ≡ sets b (18 + 4 * row_total c) tail
-    = sets_append a 18 (four_bytes c.rows) tail ∙ rw (length_rows c.rows, ← eb) in
+    = sets_append (four_bytes c.rows) tail a 18 ∙ rw (length_rows c.rows, ← eb) in
     let three : sets b (18 + 4 * row_total c) tail ≡ sets d (18 + 4 * row_total c + length c.literals) c.pairs
-    = sets_append b (18 + 4 * row_total c) c.literals c.pairs ∙ rw (← ed) in
+    = sets_append c.literals c.pairs b (18 + 4 * row_total c) ∙ rw (← ed) in
     ee ∙ sym (one ∙ two ∙ three) ∙ over_sets (encode c) out room

@@ -6,7 +6,7 @@ use mathlib.Core.Path.{◌≡◌, refl, sym, ap, ◌∙◌}
 use mathlib.Core.Bool.{Bool, true, false, ◌&&◌, ◌||◌, true≢false}
 use mathlib.Core.List.{List, ◌++◌}
 use mathlib.Core.Logic.{◌↔◌}
-use Prim.Native.Nat.{ℕ, ◌+◌, ◌*◌, ◌/◌, ◌%◌, ◌≤◌}
+use Prim.Native.Nat.{ℕ, ◌+◌, ◌*◌, ◌%◌, ◌≤◌}
 use native.Mathlib.Omega.{arith}
 use lib.Dec.{T, eqb}
 use lib.ListN.{length}
@@ -21,7 +21,7 @@ use Rattle.page.proofs.Refusals.{page_numbered, given_denied}
 use Rattle.page.proofs.Places.{length_literals}
 use Rattle.page.proofs.RowSteps.{Bytes}
 use Rattle.page.proofs.Accepted.{InRanges, counts_in, form_one, placed, whole_length, counts}
-use Rattle.writer.specs.Content.{Content, content, row_total, pair_total, header_fields, four_bytes, header, parts, encode, counts_from, content_of}
+use Rattle.writer.specs.Content.{Content, row_total, pair_total, header_fields, four_bytes, header, parts, encode, counts_from, content_of}
 use Rattle.writer.specs.Writes.{ragged, sizes_out, content_refusals, content_no}
 use Rattle.writer.proofs.Bytes.{length_header, length_rows, length_page}
 use Rattle.writer.proofs.Runs.{run_past, run_first, run_all, run_cut, words_from, words_run, rows_run, length_counts, counts_back}
@@ -37,14 +37,14 @@ module _ (c : Content) (h : sizes_out c ≡ false) where
   unfolding sizes_out
   neither = or_none (ragged c) (counts_out c.atoms (row_total c) (length c.literals) (pair_total c)) h
 
-  pub counts_fine : counts_out c.atoms (row_total c) (length c.literals) (pair_total c) ≡ false
+  counts_fine : counts_out c.atoms (row_total c) (length c.literals) (pair_total c) ≡ false
   counts_fine = neither.1
 
   pub sizes_in : InRanges c.atoms (row_total c) (length c.literals) (pair_total c)
   sizes_in = counts_in _ _ _ _ counts_fine
 
   -- whole rows, and whole pairs
-  whole : (length c.rows ≡ 3 * row_total c) × (length c.pairs ≡ 2 * pair_total c)
+  pub whole : (length c.rows ≡ 3 * row_total c) × (length c.pairs ≡ 2 * pair_total c)
   unfolding ragged
   whole =
       let r = eqb (length c.rows % 3) 0 in
@@ -157,14 +157,6 @@ module _ (page : List ℕ) (bytes : Bytes page) (h : page_no page ≡ 0) where
 
   own_valid : content_no (content_of page) ≡ 0
   own_valid = sym (same_number (content_of page) own_sizes) ∙ ap page_no made_again ∙ h
-
--- ---- how long the page is, as it is added up
-pub page_sum : (atoms : ℕ) (rows literals pairs : List ℕ) → sizes_out (content atoms rows literals pairs) ≡ false
-    → (18 + 4 * (length rows / 3) + length literals + length pairs ≡ length (encode (content atoms rows literals pairs)))
-    × (18 + 4 * (length rows / 3) + length literals + length pairs ≤ 866)
-page_sum atoms rows literals pairs h =
-    let c = content atoms rows literals pairs in
-    (sym (length_page c), omega (arith, length_page c, page_most c h))
 
 -- ---- the law
 -- this content is valid, and makes the page

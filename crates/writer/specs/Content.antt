@@ -41,8 +41,11 @@ four_bytes (head ∷ []) = []
 four_bytes (head ∷ pos ∷ []) = []
 four_bytes (head ∷ pos ∷ neg ∷ l) = head ∷ pos ∷ neg ∷ 0 ∷ four_bytes l
 
+abbrev pub header_numbers : Content → List ℕ
+header_numbers c = header_fields c.atoms (row_total c) (length c.literals) (pair_total c)
+
 unfoldable pub header : Content → List ℕ
-header c = two_bytes (header_fields c.atoms (row_total c) (length c.literals) (pair_total c))
+header c = two_bytes (header_numbers c)
 
 -- the page: header, rows, literals, pairs
 abbrev pub parts : Content → List ℕ

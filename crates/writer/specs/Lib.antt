@@ -1,3 +1,4 @@
 pub mod Content
+pub mod Given
 pub mod Meaning
 pub mod Writes

@@ -2,15 +2,14 @@
 // of this call and checked as any page is; only where it is accepted, and there is room for it, is it copied to the lent slice.
 #![tactic(auto)]
 
-ghost use Rattle.std.specs.Prelude.{◌≡◌, false, ◌+◌, ◌*◌, ◌/◌, ◌≤◌, ◌<◌, length};
+ghost use Rattle.std.specs.Prelude.{◌≡◌, false, ◌+◌, ◌*◌, ◌/◌, ◌≤◌, length};
 ghost use Rattle.std.proofs.lemmas.List.Edits.{sets};
 ghost use Rattle.lanes.specs.Entries.{over};
-ghost use Rattle.page.specs.Fields.{byte_at};
-ghost use Rattle.page.specs.Refusals.{counts_out};
-ghost use Rattle.writer.specs.Content.{content, header_fields, two_bytes, four_bytes, encode};
+ghost use Rattle.writer.specs.Content.{header_numbers, two_bytes, four_bytes, encode};
+ghost use Rattle.writer.specs.Given.{given};
 ghost use Rattle.writer.specs.Writes as means;
 
-use page::{accept, fields, ranges};
+use page::{accept, ranges};
 
 // The refusal number, and how many bytes the page has; 0 where refused.
 #[derive(Clone, Copy)]
@@ -19,68 +18,29 @@ pub struct Written {
     pub length: u16,
 }
 
-// Byte i of the header of a page with so many atoms, rows, literals and pairs.
-#[tactic(auto, using(crate::proofs::Bytes::low_byte, crate::proofs::Bytes::high_byte), unfolding(crate::specs::Content::header_fields))]
-fn header_byte(atoms: usize, rows: usize, literals: usize, pairs: usize, i: usize) -> u8
-    requires { (counts_out atoms rows literals pairs ≡ false) × (i < 18) }
-    ensures { result ≡ byte_at (two_bytes (header_fields atoms rows literals pairs)) i }
-{
-    let literals_at = 18 + 4 * rows;
-    let pairs_at = literals_at + literals;
-    let end = pairs_at + 2 * pairs;
-    let numbers = [
-        1,
-        atoms,
-        rows,
-        literals,
-        pairs,
-        18,
-        literals_at,
-        pairs_at,
-        end,
-    ];
-    let n = numbers[i / 2];
-    if i % 2 == 0 {
-        return (n % 256) as u8;
-    }
-    (n / 256) as u8
+// What a page is made from: how many atoms, three counts for each row, the literals row after row, two atoms for each pair.
+#[derive(Clone, Copy)]
+pub struct Content<'a> {
+    pub atoms: usize,
+    pub rows: &'a [u8],
+    pub literals: &'a [u8],
+    pub pairs: &'a [u8],
 }
 
-// Byte i of the rows: after the three counts of a row comes a zero.
-#[tactic(auto, using(crate::proofs::Bytes::count_byte, crate::proofs::Bytes::zero_byte))]
-fn row_byte(rows: &[u8], i: usize) -> u8
-    requires { i < 4 * (length rows.now / 3) }
-    ensures { result ≡ byte_at (four_bytes rows.now) i }
-{
-    let k = i % 4;
-    if k < 3 {
-        return fields::byte_at(rows, 3 * (i / 4) + k);
-    }
-    0
-}
-
-// Stores the header.
-fn put_header(atoms: usize, rows: usize, literals: usize, pairs: usize, out: &mut [u8])
-    requires { (counts_out atoms rows literals pairs ≡ false) × (18 ≤ length out.old) }
-    ensures { out.new ≡ sets out.old 0 (two_bytes (header_fields atoms rows literals pairs)) }
-{
-    let mut i = 0;
-    while i < 18 {
-        out[i] = header_byte(atoms, rows, literals, pairs, i);
-        i += 1;
-    }
-}
-
-// Stores the rows, after the header.
-fn put_rows(rows: &[u8], out: &mut [u8])
-    requires { 18 + 4 * (length rows.now / 3) ≤ length out.old }
-    ensures { out.new ≡ sets out.old 18 (four_bytes rows.now) }
-{
-    let end = 4 * (rows.len() / 3);
-    let mut i = 0;
-    while i < end {
-        out[18 + i] = row_byte(rows, i);
-        i += 1;
+impl<'a> Content<'a> {
+    // 3: lengths that are no whole number of rows or of pairs, or numbers outside their range.
+    #[tactic(auto, unfolding(crate::specs::Writes::sizes_out, crate::specs::Writes::ragged))]
+    fn sizes_out(&self) -> bool
+        ensures { result ≡ means.sizes_out (given self.now) }
+    {
+        let whole = (self.rows.len() % 3 == 0) & (self.pairs.len() % 2 == 0);
+        let out = ranges::counts_out(
+            self.atoms,
+            self.rows.len() / 3,
+            self.literals.len(),
+            self.pairs.len() / 2,
+        );
+        !whole | out
     }
 }
 
@@ -89,53 +49,103 @@ fn put(part: &[u8], at: usize, out: &mut [u8])
     requires { at + length part.now ≤ length out.old }
     ensures { out.new ≡ sets out.old at part.now }
 {
-    let mut i = 0;
-    while i < part.len() {
-        out[at + i] = part[i];
-        i += 1;
+    out[at..at + part.len()].copy_from_slice(part);
+}
+
+// Stores the header's numbers, each in two bytes, the low one first.
+fn put_header(numbers: [u16; 9], out: &mut [u8])
+    requires { 18 ≤ length out.old }
+    ensures { out.new ≡ sets out.old 0 (two_bytes numbers) }
+{
+    for (i, n) in numbers.iter().enumerate() {
+        put(&n.to_le_bytes(), 2 * i, &mut *out);
     }
 }
 
-// How long the page is.
-fn page_length(atoms: usize, rows: &[u8], literals: &[u8], pairs: &[u8]) -> usize
-    requires { means.sizes_out (content atoms rows.now literals.now pairs.now) ≡ false }
-    ensures { (result ≡ length (encode (content atoms rows.now literals.now pairs.now))) × (result ≤ 866) }
+// Stores the rows after the header: the three counts of each, and a zero.
+fn put_rows(rows: &[u8], out: &mut [u8])
+    requires { 18 + 4 * (length rows.now / 3) ≤ length out.old }
+    ensures { out.new ≡ sets out.old 18 (four_bytes rows.now) }
 {
-    18 + 4 * (rows.len() / 3) + literals.len() + pairs.len()
+    let (counts, _) = rows.as_chunks::<3>();
+    for (i, &[head, pos, neg]) in counts.iter().enumerate() {
+        put(&[head, pos, neg, 0], 18 + 4 * i, &mut *out);
+    }
 }
 
-// Stores the page at the start of a slice that has room for it.
-fn fill(atoms: usize, rows: &[u8], literals: &[u8], pairs: &[u8], out: &mut [u8])
-    requires { (means.sizes_out (content atoms rows.now literals.now pairs.now) ≡ false) × (length (encode (content atoms rows.now literals.now pairs.now)) ≤ length out.old) }
-    ensures { out.new ≡ over (encode (content atoms rows.now literals.now pairs.now)) out.old }
-{
-    let row_total = rows.len() / 3;
-    let literals_at = 18 + 4 * row_total;
-    put_header(atoms, row_total, literals.len(), pairs.len() / 2, &mut *out);
-    put_rows(rows, &mut *out);
-    put(literals, literals_at, &mut *out);
-    put(pairs, literals_at + literals.len(), &mut *out);
+// A content whose sizes are in range, so that its page is at most 866 bytes long.
+#[derive(Clone, Copy)]
+struct InRange<'a> {
+    content: Content<'a>,
+    ghost atoms_most: { content.atoms ≤ 16 },
+    ghost rows_most: { length content.rows.now ≤ 96 },
+    ghost literals_most: { length content.literals.now ≤ 704 },
+    ghost pairs_most: { length content.pairs.now ≤ 16 },
 }
 
-// 3: lengths that are no whole number of rows or of pairs, or numbers outside their range.
-fn sizes_out(atoms: usize, rows: &[u8], literals: &[u8], pairs: &[u8]) -> bool
-    ensures { result ≡ means.sizes_out (content atoms rows.now literals.now pairs.now) }
-{
-    let whole = (rows.len() % 3 == 0) & (pairs.len() % 2 == 0);
-    let out = ranges::counts_out(atoms, rows.len() / 3, literals.len(), pairs.len() / 2);
-    !whole | out
+impl<'a> InRange<'a> {
+    // The header's nine numbers.
+    #[tactic(auto, unfolding(crate::specs::Content::header_fields))]
+    fn numbers(&self) -> [u16; 9]
+        ensures { result ≡ header_numbers (given self.now.content) }
+    {
+        let content = self.content;
+        let atoms = content.atoms as u16;
+        let rows = (content.rows.len() / 3) as u16;
+        let literals = content.literals.len() as u16;
+        let pairs = (content.pairs.len() / 2) as u16;
+        let literals_at = 18 + 4 * rows;
+        let pairs_at = literals_at + literals;
+        let end = pairs_at + 2 * pairs;
+        [
+            1,
+            atoms,
+            rows,
+            literals,
+            pairs,
+            18,
+            literals_at,
+            pairs_at,
+            end,
+        ]
+    }
+
+    // How long the page is.
+    #[tactic(auto, using(crate::proofs::Bytes::length_page))]
+    fn length(&self) -> usize
+        ensures { (result ≡ length (encode (given self.now.content))) × (result ≤ 866) }
+    {
+        let content = self.content;
+        18 + 4 * (content.rows.len() / 3) + content.literals.len() + content.pairs.len()
+    }
+
+    // Stores the page at the start of a slice that has room for it.
+    #[tactic(auto, using(crate::proofs::Bytes::length_page))]
+    fn fill(&self, out: &mut [u8])
+        requires { length (encode (given self.now.content)) ≤ length out.old }
+        ensures { out.new ≡ over (encode (given self.now.content)) out.old }
+    {
+        let content = self.content;
+        let literals_at = 18 + 4 * (content.rows.len() / 3);
+        let pairs_at = literals_at + content.literals.len();
+        put_header(self.numbers(), &mut *out);
+        put_rows(content.rows, &mut *out);
+        put(content.literals, literals_at, &mut *out);
+        put(content.pairs, pairs_at, &mut *out);
+    }
 }
 
 // Makes the page at the start of the lent slice; later bytes keep their content. Refusals 3, 5, 6, 7, 8, then 11 for a slice that is too short.
-pub fn write(atoms: usize, rows: &[u8], literals: &[u8], pairs: &[u8], buffer: &mut [u8]) -> Written
-    ensures { means.WriteSays (content atoms rows.now literals.now pairs.now) buffer.old result buffer.new }
+pub fn write(content: &Content, buffer: &mut [u8]) -> Written
+    ensures { means.WriteSays (given content.now) buffer.old result buffer.new }
 {
-    if sizes_out(atoms, rows, literals, pairs) {
+    if content.sizes_out() {
         return Written { no: 3, length: 0 };
     }
-    let end = page_length(atoms, rows, literals, pairs);
+    let fit = InRange { content: *content };
+    let end = fit.length();
     let mut page = [0u8; 866];
-    fill(atoms, rows, literals, pairs, &mut page[..end]);
+    fit.fill(&mut page[..end]);
     let no = accept::page_no(&page[..end]);
     if no != 0 {
         return Written { no, length: 0 };

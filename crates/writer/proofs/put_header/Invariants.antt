@@ -1,11 +1,9 @@
--- `put_header` stores the header byte after byte. Assumes nothing.
-use Prim.Native.Nat.{◌-◌, ◌≤◌}
-use Rattle.writer.specs.Content.{header_fields, two_bytes}
-use Rattle.writer.proofs.Bytes.{Stored}
+-- `put_header` stores number after number. Assumes nothing.
+use Prim.Native.Nat.{◌*◌}
+use lib.ListN.{drop}
+use Rattle.writer.specs.Content.{two_bytes}
+use Rattle.writer.proofs.Bytes.{Left}
 use Rattle.writer.proofs.put_header.Given as goal
 
 abbrev pub invariant-loop-i : goal.invariant-loop-i
-invariant-loop-i l = (l.i ≤ 18) × Stored (two_bytes (header_fields l.atoms l.rows l.literals l.pairs)) 0 l.initial.out l.out l.i
-
-abbrev pub decreases-loop-i : goal.decreases-loop-i
-decreases-loop-i l = 18 - l.i
+invariant-loop-i l = Left (two_bytes l.fn.numbers) 0 l.initial.out l.out (2 * l.i) (two_bytes (drop l.i l.n-items))

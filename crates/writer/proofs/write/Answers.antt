@@ -4,8 +4,10 @@ use lib.Seq.{sets, length-take-le}
 use Rattle.std.proofs.lemmas.List.{length-replicate}
 use Rattle.page.proofs.Refusals.{first_here}
 use Rattle.lanes.proofs.Stored.{over_sets}
-use Rattle.writer.specs.Content.{content, encode}
+use Rattle.writer.specs.Content.{encode}
+use Rattle.writer.specs.Given.{given}
 use Rattle.writer.specs.Writes.{content_refusals, content_no}
+use Rattle.writer.proofs.Encoding.{sizes_in, whole}
 use Rattle.writer.proofs.Ways.{write_refused, write_short, write_made, made_room, made_lent, made_number}
 use Rattle.writer.proofs.write.Goals as goal
 
@@ -19,36 +21,47 @@ pub returns-then-sizes_out : goal.returns-then-sizes_out
 unfolding content_no content_refusals
 returns-then-sizes_out c = write_refused _ _ 3 (sym (first_here 3 _ _ _ c.sizes_out.ensures c.if-sizes_out.true)) (λ e. omega arith)
 
-pub page_length-end-requires : goal.page_length-end-requires
-page_length-end-requires c = sym c.sizes_out.ensures ∙ c.if-sizes_out.false
+-- its sizes are in range
+pub invariant_of-fit : goal.invariant_of-fit
+invariant_of-fit c =
+    let s = given c.args.content.now in
+    let fine = sym c.sizes_out.ensures ∙ c.if-sizes_out.false in
+    let i = sizes_in s fine in
+    let w = whole s fine in
+    record {
+      atoms_most = i.atoms_most;
+      rows_most = omega (arith, w.0, i.rows_most);
+      literals_most = i.literals_most;
+      pairs_most = omega (arith, w.1, i.pairs_most);
+    }
 
 pub fill-requires : goal.fill-requires
 fill-requires c =
-    let end = c.page_length-end in
-    (sym c.sizes_out.ensures ∙ c.if-sizes_out.false, omega (arith, end.ensures.0, lent end.result end.ensures.1))
+    let end = c.length-end in
+    omega (arith, end.ensures.0, lent end.result end.ensures.1)
 
 pub slice_bounds-page-end-2 : goal.slice_bounds-page-end-2
-slice_bounds-page-end-2 c = let end = c.page_length-end in made_room _ _ _ _ _ c.fill.ensures end.ensures.0 (lent end.result end.ensures.1)
+slice_bounds-page-end-2 c = let end = c.length-end in made_room _ _ _ _ _ c.fill.ensures end.ensures.0 (lent end.result end.ensures.1)
 
 pub returns-then-no-ne0 : goal.returns-then-no-ne0
 returns-then-no-ne0 c =
-    let end = c.page_length-end in
+    let end = c.length-end in
     let number = made_number _ _ _ _ _ _ (sym c.sizes_out.ensures ∙ c.if-sizes_out.false) c.fill.ensures end.ensures.0 (lent end.result end.ensures.1) c.page_no-no.ensures in
     write_refused _ _ _ number c.if-no-ne0.true
 
 pub returns-then-buffer-end : goal.returns-then-buffer-end
 returns-then-buffer-end c =
-    let end = c.page_length-end in
+    let end = c.length-end in
     let number = made_number _ _ _ _ _ _ (sym c.sizes_out.ensures ∙ c.if-sizes_out.false) c.fill.ensures end.ensures.0 (lent end.result end.ensures.1) c.page_no-no.ensures in
     write_short _ _ _ number c.if-no-ne0.false (omega (arith, end.ensures.0))
 
 pub returns : goal.returns
 returns c =
-    let end = c.page_length-end in
+    let end = c.length-end in
     let number = made_number _ _ _ _ _ _ (sym c.sizes_out.ensures ∙ c.if-sizes_out.false) c.fill.ensures end.ensures.0 (lent end.result end.ensures.1) c.page_no-no.ensures in
     let a = c.args in
-    let s = content a.atoms a.rows.now a.literals.now a.pairs.now in
-    let made = made_lent _ _ _ _ _ c.fill.ensures end.ensures.0 (lent end.result end.ensures.1) in
+    let s = given a.content.now in
     let room : length (encode s) ≤ length a.buffer.now = omega (arith, end.ensures.0) in
+    let made = made_lent _ _ _ _ _ c.fill.ensures end.ensures.0 (lent end.result end.ensures.1) in
     write_made s _ _ number c.if-no-ne0.false room _ _ end.ensures.0
     (c.put.ensures ∙ ap (sets a.buffer.now 0) made ∙ over_sets (encode s) a.buffer.now room)
