@@ -2,7 +2,7 @@
 // are best, and the pick. A refusal is printed as its number.
 #![tactic(auto)]
 
-ghost use Rattle.std.specs.Prelude.{Some, [], ◌∷◌};
+ghost use Rattle.std.specs.Prelude.{Some, ◌∷◌};
 ghost use Rattle.std.specs.List.{flat_map};
 ghost use Rattle.std.specs.Fmt.{decimal};
 
