@@ -19,11 +19,10 @@ pub fn read_full<R: Read>(reader: &mut R, buf: &mut [u8]) -> io::Result<usize>
 {
     let mut done = 0;
     while done < buf.len() {
-        let n = reader.read(&mut buf[done..])?;
-        if n == 0 {
-            return Ok(done);
+        match reader.read(&mut buf[done..])? {
+            0 => return Ok(done),
+            n => done += n,
         }
-        done += n;
     }
     Ok(done)
 }

@@ -1,79 +1,116 @@
 // The cases as they stand in the input. A case is: the length of its name (one byte), the name, a flag word, the length of its page (two
 // bytes each, low first), the page, how many calls there are (one byte), and the calls. A call is a letter and two words.
 // A byte past the end reads as 0, so any bytes will do.
-ghost use Rattle.std.specs.Prelude.{◌<◌};
+ghost use Rattle.std.specs.Prelude.{◌<◌, ◌≤◌, length, IfSome};
 
-use page::fields;
-
-// Where the parts of a case start, how many calls it has, and where it ends.
+// A case, as far as the input has it: its name, its flag word, its page, how many calls it has, and their bytes.
 #[derive(Clone, Copy)]
-pub struct Case {
-    pub name: u32,
-    pub flags: u32,
-    pub page: u32,
-    pub page_end: u32,
-    pub calls: u32,
+pub struct Case<'a> {
+    pub name: &'a [u8],
+    pub flags: u16,
+    pub page: &'a [u8],
     pub many: u8,
-    pub end: u32,
+    calls: &'a [u8],
 }
 
-// A call: what to run, and two numbers to run it with.
+// What to run, with its numbers.
 #[derive(Clone, Copy)]
-pub struct Call {
-    pub letter: u8,
-    pub first: u16,
-    pub second: u16,
+pub enum Call {
+    List { room: u16 },
+    Best { room: u16 },
+    Degrees { set: u16, room: u16 },
+    Reduct { set: u16 },
+    Rounds { set: u16 },
+    HereThere { set: u16 },
+    Split { set: u16 },
+    AllThree { below: u16 },
+    Compare { first: u16, second: u16 },
+    Pick,
+    Rows { below: u16 },
+    Letter { number: u16 },
 }
 
-// The two bytes from a place on, the low one first.
-pub fn word(text: &[u8], at: usize) -> u16 {
-    if at < text.len() {
-        let low = fields::byte_at(text, at) as u16;
-        let high = fields::byte_at(text, at + 1) as u16;
-        return low + 256 * high;
-    }
-    0
-}
+// How many bytes a call has.
+const CALL: usize = 5;
 
-// The bytes from one place to another, and none where there are no such bytes.
-pub fn part<'a>(text: &'a [u8], from: u32, to: u32) -> &'a [u8] {
-    let first = from as usize;
-    let last = to as usize;
-    if first <= last {
-        if last <= text.len() {
-            return &text[first..last];
-        }
-    }
-    &text[..0]
-}
-
-// The case that starts at a place. It has a byte or more, so the next one starts later.
-pub fn case_at(text: &[u8], at: u16) -> Case
-    ensures { at < result.end }
+// The first byte, and what follows it.
+fn byte(text: &[u8]) -> (u8, &[u8])
+    ensures { length result.1.now ≤ length text.now }
 {
-    let name = at as u32 + 1;
-    let flags = name + fields::byte_at(text, at as usize) as u32;
-    let page = flags + 4;
-    let page_end = page + word(text, flags as usize + 2) as u32;
-    let many = fields::byte_at(text, page_end as usize);
-    let calls = page_end + 1;
-    Case {
-        name,
-        flags,
-        page,
-        page_end,
-        calls,
-        many,
-        end: calls + 5 * many as u32,
+    match text {
+        [first, rest @ ..] => (*first, rest),
+        [] => (0, text),
     }
 }
 
-// Call k of the calls that start at a place.
-pub fn call_at(text: &[u8], calls: u32, k: u8) -> Call {
-    let at = calls as usize + 5 * k as usize;
-    Call {
-        letter: fields::byte_at(text, at),
-        first: word(text, at + 1),
-        second: word(text, at + 3),
+// The first two bytes, the low one first, and what follows them.
+fn word(text: &[u8]) -> (u16, &[u8])
+    ensures { length result.1.now ≤ length text.now }
+{
+    let (low, rest) = byte(text);
+    let (high, rest) = byte(rest);
+    (u16::from_le_bytes([low, high]), rest)
+}
+
+// So many bytes, and what follows them. Where there are fewer, both are empty.
+fn part(text: &[u8], count: usize) -> (&[u8], &[u8])
+    ensures { length result.1.now ≤ length text.now }
+{
+    text.split_at_checked(count).unwrap_or((&[], &[]))
+}
+
+impl<'a> Case<'a> {
+    // The first case, and what follows it. None at the end of the input.
+    pub fn read(text: &'a [u8]) -> Option<(Case<'a>, &'a [u8])>
+        ensures { IfSome result (λ r. length r.1.now < length text.now) }
+    {
+        let (&name_length, rest) = text.split_first()?;
+        let (name, rest) = part(rest, usize::from(name_length));
+        let (flags, rest) = word(rest);
+        let (page_length, rest) = word(rest);
+        let (page, rest) = part(rest, usize::from(page_length));
+        let (many, rest) = byte(rest);
+        let (calls, rest) = rest.split_at(rest.len().min(CALL * usize::from(many)));
+        let case = Case {
+            name,
+            flags,
+            page,
+            many,
+            calls,
+        };
+        Some((case, rest))
+    }
+
+    // Call k, and none where its letter is that of no call.
+    pub fn call(&self, k: u8) -> Option<Call> {
+        let rest = self.calls.get(CALL * usize::from(k)..);
+        Call::read(rest.unwrap_or_default())
+    }
+}
+
+impl Call {
+    // The call that a letter and two words stand for. The letters are those of tests/known/make.py.
+    fn read(text: &[u8]) -> Option<Call> {
+        let (letter, rest) = byte(text);
+        let (first, rest) = word(rest);
+        let (second, _) = word(rest);
+        match letter {
+            b'l' => Some(Call::List { room: first }),
+            b'b' => Some(Call::Best { room: first }),
+            b'd' => Some(Call::Degrees {
+                set: first,
+                room: second,
+            }),
+            b'r' => Some(Call::Reduct { set: first }),
+            b'n' => Some(Call::Rounds { set: first }),
+            b'h' => Some(Call::HereThere { set: first }),
+            b's' => Some(Call::Split { set: first }),
+            b't' => Some(Call::AllThree { below: first }),
+            b'c' => Some(Call::Compare { first, second }),
+            b'p' => Some(Call::Pick),
+            b'w' => Some(Call::Rows { below: first }),
+            b'L' => Some(Call::Letter { number: first }),
+            _ => None,
+        }
     }
 }

@@ -1,113 +1,100 @@
 // The calls that store in lent memory. The memory is filled before the call, and after it every entry is looked at: what is stored, and how
 // many of the later ones are as they were.
-use crate::say;
-use engine::degrees::Graded;
+ghost use Rattle.std.specs.Prelude.{◌≤◌, length};
+
 use engine::list::Listed;
-use std::io;
+use std::{fmt, io};
 
-// Room for more sets than a page can have; each entry is 4660.
-fn room() -> [u16; 65536] {
-    [4660u16; 65536]
-}
+// Room for more sets than a page can have, and what each entry is before the call.
+const ROOM: usize = 65536;
 
-// A sum in which the order of the entries counts.
-fn summed(sum: u32, set: u16) -> u32 {
-    ((31 * sum as u64 + set as u64) % 65521) as u32
-}
+const UNTOUCHED: u16 = 4660;
 
-// The sum of the entries before a place.
-fn sum_to(sets: &[u16], to: u32) -> u32 {
-    let mut sum = 0;
-    let mut k = 0;
-    while k < to {
-        sum = summed(sum, say::entry(sets, k));
-        k += 1;
-    }
-    sum
-}
+// Sets, each after a space.
+#[derive(Clone, Copy)]
+struct Spaced<'a>(&'a [u16]);
 
-// How many entries from a place on are as they were before the call.
-fn kept_from(sets: &[u16], from: u32) -> u32 {
-    let mut kept = 0;
-    let mut k = from;
-    while k < 65536 {
-        if say::entry(sets, k) == 4660 {
-            kept += 1;
+impl fmt::Display for Spaced<'_> {
+    fn fmt<W: fmt::Write>(&self, f: &mut fmt::Formatter<W>) -> fmt::Result {
+        for set in self.0 {
+            write!(f, " {set}")?;
         }
-        k += 1;
+        Ok(())
     }
-    kept
 }
 
 // A list of sets: all of a short one; of a long one its ends and its sum.
-fn say_sets(rt: &impl Print, sets: &[u16], count: u32) -> io::Result<()> {
-    if count <= 8 {
-        return say::entries(rt, sets, 0, count);
+#[derive(Clone, Copy)]
+struct Sets<'a>(&'a [u16]);
+
+impl fmt::Display for Sets<'_> {
+    fn fmt<W: fmt::Write>(&self, f: &mut fmt::Formatter<W>) -> fmt::Result {
+        let sets = self.0;
+        let count = sets.len();
+        if count <= 8 {
+            return Spaced(sets).fmt(f);
+        }
+        let first = Spaced(&sets[..4]);
+        let last = Spaced(&sets[count - 4..]);
+        let sum = sum_of(sets);
+        write!(f, "{first} ..{last}, sum {sum}")
     }
-    say::entries(rt, sets, 0, 4)?;
-    say::words(rt, b" ..")?;
-    say::entries(rt, sets, count - 4, count)?;
-    say::with(rt, b", sum ", sum_to(sets, count) as u64)
 }
 
-// What a call that lists sets answered, and what it stored.
-fn say_listed(rt: &impl Print, r: Listed, sets: &[u16]) -> io::Result<()> {
-    say::with(rt, b": number ", r.no as u64)?;
-    say::with(rt, b", count ", r.count as u64)?;
-    say::words(rt, b", sets")?;
-    say_sets(rt, sets, r.count)?;
-    say::with(rt, b", kept ", kept_from(sets, r.count) as u64)?;
-    say::words(rt, b"\n")
+// All bytes of a slice, side by side.
+#[derive(Clone, Copy)]
+struct Bytes<'a>(&'a [u8]);
+
+impl fmt::Display for Bytes<'_> {
+    fn fmt<W: fmt::Write>(&self, f: &mut fmt::Formatter<W>) -> fmt::Result {
+        for byte in self.0 {
+            write!(f, "{byte}")?;
+        }
+        Ok(())
+    }
 }
 
-// All answer sets, or the best of them.
-fn ask(page: &[u8], flags: u16, best: bool, out: &mut [u16]) -> Listed {
-    if best {
-        return engine::best::best(page, flags, &mut *out);
-    }
-    engine::list::list(page, flags, &mut *out)
+// A sum in which the order of the sets counts.
+fn sum_of(sets: &[u16]) -> u32 {
+    sets.iter().fold(0, |sum: u32, &set| {
+        ((31 * u64::from(sum) + u64::from(set)) % 65521) as u32
+    })
 }
 
-// The same into the first n entries only.
-fn ask_first(page: &[u8], flags: u16, best: bool, n: u16, out: &mut [u16]) -> Listed {
-    let end = n as usize;
-    if end < out.len() {
-        return ask(page, flags, best, &mut out[..end]);
-    }
-    ask(page, flags, best, &mut *out)
+// What a call that lists sets into the first n entries answered, and what it stored.
+fn say_listed(rt: &impl Print, word: &str, n: u16, listed: Listed, out: &[u16]) -> io::Result<()>
+    requires { listed.count ≤ length out.now }
+{
+    let no = listed.no;
+    let count = listed.count;
+    let (stored, rest) = out.split_at(count as usize);
+    let sets = Sets(stored);
+    let kept = rest.iter().filter(|&&set| set == UNTOUCHED).count();
+    println!(rt; "  {word} into {n}: number {no}, count {count}, sets{sets}, kept {kept}")
 }
 
-// All answer sets, or the best of them, into a slice of n entries.
-pub fn sets(rt: &impl Print, page: &[u8], flags: u16, best: bool, n: u16) -> io::Result<()> {
-    let mut out = room();
-    let r = ask_first(page, flags, best, n, &mut out);
-    if best {
-        say::with(rt, b"  best into ", n as u64)?;
-    } else {
-        say::with(rt, b"  list into ", n as u64)?;
-    }
-    say_listed(rt, r, &out)
+// All answer sets, into a slice of n entries.
+pub fn list(rt: &impl Print, page: &[u8], flags: u16, n: u16) -> io::Result<()> {
+    let mut out = [UNTOUCHED; ROOM];
+    let listed = engine::list::list(page, flags, &mut out[..usize::from(n)]);
+    say_listed(rt, "list", n, listed, &out)
 }
 
-// The degrees of a set into the first n entries of a slice.
-fn grade_first(page: &[u8], flags: u16, set: u16, n: u16, out: &mut [u8]) -> Graded {
-    let end = n as usize;
-    if end < out.len() {
-        return engine::degrees::degrees(page, flags, set, &mut out[..end]);
-    }
-    engine::degrees::degrees(page, flags, set, &mut *out)
+// The best of them.
+pub fn best(rt: &impl Print, page: &[u8], flags: u16, n: u16) -> io::Result<()> {
+    let mut out = [UNTOUCHED; ROOM];
+    let listed = engine::best::best(page, flags, &mut out[..usize::from(n)]);
+    say_listed(rt, "best", n, listed, &out)
 }
 
 // The degrees of a set, into a slice of n entries. There is room for two more than a page can have rows; each entry is 9, which no degree
 // is, before the call.
 pub fn degrees(rt: &impl Print, page: &[u8], flags: u16, set: u16, n: u16) -> io::Result<()> {
     let mut out = [9u8; 34];
-    let r = grade_first(page, flags, set, n, &mut out);
-    say::with(rt, b"  degrees of ", set as u64)?;
-    say::with(rt, b" into ", n as u64)?;
-    say::with(rt, b": number ", r.no as u64)?;
-    say::with(rt, b", count ", r.count as u64)?;
-    say::words(rt, b", memory ")?;
-    say::bytes(rt, &out)?;
-    say::words(rt, b"\n")
+    let room = usize::from(n).min(out.len());
+    let graded = engine::degrees::degrees(page, flags, set, &mut out[..room]);
+    let no = graded.no;
+    let count = graded.count;
+    let memory = Bytes(&out);
+    println!(rt; "  degrees of {set} into {n}: number {no}, count {count}, memory {memory}")
 }

@@ -8,67 +8,50 @@ use std::io;
 mod calls;
 mod input;
 mod lists;
-mod say;
 
-// One call on a page. The letters are those of tests/known/make.py.
+// One call on a page.
 fn run_call(rt: &impl Print, page: &[u8], flags: u16, call: Call) -> io::Result<()> {
-    let letter = call.letter;
-    match letter {
-        b'l' => lists::sets(rt, page, flags, false, call.first),
-        b'b' => lists::sets(rt, page, flags, true, call.first),
-        b'd' => lists::degrees(rt, page, flags, call.first, call.second),
-        b'r' => calls::reduct(rt, page, flags, call.first),
-        b'n' => calls::rounds(rt, page, flags, call.first),
-        b'h' => calls::here_there(rt, page, flags, call.first),
-        b's' => calls::split(rt, page, flags, call.first),
-        b't' => calls::all_three(rt, page, flags, call.first),
-        b'c' => calls::compare(rt, page, flags, call.first, call.second),
-        b'p' => calls::pick(rt, page, flags),
-        b'w' => calls::rows(rt, page, call.first),
-        b'L' => calls::letter(rt, call.first),
-        _ => say::words(rt, b"  no such call\n"),
+    match call {
+        Call::List { room } => lists::list(rt, page, flags, room),
+        Call::Best { room } => lists::best(rt, page, flags, room),
+        Call::Degrees { set, room } => lists::degrees(rt, page, flags, set, room),
+        Call::Reduct { set } => calls::reduct(rt, page, flags, set),
+        Call::Rounds { set } => calls::rounds(rt, page, flags, set),
+        Call::HereThere { set } => calls::here_there(rt, page, flags, set),
+        Call::Split { set } => calls::split(rt, page, flags, set),
+        Call::AllThree { below } => calls::all_three(rt, page, flags, below),
+        Call::Compare { first, second } => calls::compare(rt, page, flags, first, second),
+        Call::Pick => calls::pick(rt, page, flags),
+        Call::Rows { below } => calls::rows(rt, page, below),
+        Call::Letter { number } => calls::letter(rt, number),
     }
 }
 
-// The calls of a case, in their order.
-fn run_calls(rt: &impl Print, text: &[u8], case: Case, page: &[u8], flags: u16) -> io::Result<()> {
-    let mut k = 0;
-    while k < case.many {
-        run_call(rt, page, flags, input::call_at(text, case.calls, k))?;
-        k += 1;
-    }
-    Ok(())
-}
-
-// A case: its name and flag word, then its calls.
-fn run_case(rt: &impl Print, text: &[u8], case: Case) -> io::Result<()> {
-    let flags = input::word(text, case.flags as usize);
-    say::words(rt, input::part(text, case.name, case.flags))?;
-    say::with(rt, b", flags ", flags as u64)?;
-    say::words(rt, b"\n")?;
-    run_calls(
-        rt,
-        text,
-        case,
-        input::part(text, case.page, case.page_end),
-        flags,
-    )
-}
-
-// The cases, one after the other. No more than 65,536 bytes of input are read.
-fn run_cases(rt: &impl Print, text: &[u8]) -> io::Result<()> {
-    let mut at = 0;
-    while at < 65536 {
-        if text.len() <= at as usize {
-            return Ok(());
+// A case: its name and flag word, then its calls. A name may be any bytes, so it is written as it is.
+fn run_case(rt: &impl Print, case: Case) -> io::Result<()> {
+    let flags = case.flags;
+    rt.write_all(case.name)?;
+    println!(rt; ", flags {flags}")?;
+    for k in 0..case.many {
+        match case.call(k) {
+            Some(call) => run_call(rt, case.page, flags, call)?,
+            None => println!(rt; "  no such call")?,
         }
-        let case = input::case_at(text, at as u16);
-        run_case(rt, text, case)?;
-        at = case.end;
     }
     Ok(())
 }
 
+// The cases, one after the other.
+fn run_cases(rt: &impl Print, text: &[u8]) -> io::Result<()> {
+    let mut left = text;
+    while let Some((case, rest)) = Case::read(left) {
+        run_case(rt, case)?;
+        left = rest;
+    }
+    Ok(())
+}
+
+// No more than 65,536 bytes of input are read.
 fn main(rt: HostRuntime) -> io::Result<()> {
     let mut text = [0u8; 65536];
     let got = intake::read_full(&mut rt.stdin(), &mut text)?;

@@ -2,59 +2,47 @@
 // it prints the set's atoms and how many rounds add something on the way to the set. A refusal is printed as its number and ends the list.
 #![tactic(auto)]
 
-use page::fields;
+ghost use Rattle.std.specs.Prelude.{Some, ◌∷◌, filter};
+ghost use Rattle.std.specs.List.{flat_map, range_with_len};
+ghost use Rattle.std.specs.Fmt.{decimal};
+ghost use Rattle.atoms.specs.Atoms.{has};
+
 use routes::reduct;
-use std::io;
+use std::{fmt, io};
 
-// A word and a number.
-fn say(rt: &impl Print, word: &[u8], number: u64) -> io::Result<()> {
-    rt.write_all(word)?;
-    rt.print(number)
+// The atoms of a set, rising, each after a space.
+#[derive(Clone, Copy)]
+struct Atoms(u16);
+
+impl fmt::Display for Atoms {
+    ghost output = { λ s. Some (flat_map (λ a. 32 ∷ decimal a) (filter (has s.0) (range_with_len 0 16))) };
+
+    fn fmt<W: fmt::Write>(&self, f: &mut fmt::Formatter<W>) -> fmt::Result {
+        for atom in 0..16 {
+            if atoms::holds(self.0, atom) {
+                write!(f, " {atom}")?;
+            }
+        }
+        Ok(())
+    }
 }
 
-// The line of a refusal.
-fn say_refused(rt: &impl Print, number: u16) -> io::Result<()> {
-    say(rt, b"refused ", number as u64)?;
-    rt.write_all(b"\n")
-}
-
-// The atoms of a set, rising: the lowest, and then those of the rest.
-fn say_atoms(rt: &impl Print, set: u16) -> io::Result<()> {
-    let mut rest = set;
-    while rest != 0 {
-        let atom = atoms::lowest(rest);
-        say(rt, b" ", atom as u64)?;
-        rest -= 1 << atom;
-    }
-    Ok(())
-}
-
-// The line of one set. False where the call is refused.
-fn say_set(rt: &impl Print, page: &[u8], flags: u16, set: u16) -> io::Result<bool> {
-    let counted = reduct::rounds(page, flags, set);
-    if counted.no != 0 {
-        say_refused(rt, counted.no)?;
-        return Ok(false);
-    }
-    say(rt, b"set ", set as u64)?;
-    rt.write_all(b" atoms")?;
-    say_atoms(rt, set)?;
-    if set == 0 {
-        rt.write_all(b" none")?;
-    }
-    say(rt, b" rounds ", counted.count as u64)?;
-    rt.write_all(b"\n")?;
-    Ok(true)
+// The line of one set.
+fn say_set(rt: &impl Print, set: u16, rounds: u32) -> io::Result<()> {
+    let atoms = Atoms(set);
+    let none = if set == 0 { " none" } else { "" };
+    println!(rt; "set {set} atoms{atoms}{none} rounds {rounds}")
 }
 
 // The lines from the first set to the last, or to the first that is refused. Where the last is below the first, the first alone.
 fn say_sets(rt: &impl Print, page: &[u8], flags: u16, first: u16, last: u16) -> io::Result<()> {
-    let mut set = first;
-    while say_set(rt, page, flags, set)? {
-        if last <= set {
-            return Ok(());
+    for set in first..=last.max(first) {
+        let counted = reduct::rounds(page, flags, set);
+        let no = counted.no;
+        if no != 0 {
+            return println!(rt; "refused {no}");
         }
-        set += 1;
+        say_set(rt, set, counted.count)?;
     }
     Ok(())
 }
@@ -62,15 +50,12 @@ fn say_sets(rt: &impl Print, page: &[u8], flags: u16, first: u16, last: u16) -> 
 // The input: a flag word, two sets and the page. Where it breaks off before the page, the page is too short.
 fn say_input(rt: &impl Print, input: &[u8]) -> io::Result<()> {
     if input.len() < 6 {
-        return say_refused(rt, 1);
+        return println!(rt; "refused 1");
     }
-    say_sets(
-        rt,
-        &input[6..],
-        fields::word_at(input, 0),
-        fields::word_at(input, 2),
-        fields::word_at(input, 4),
-    )
+    let flags = u16::from_le_bytes([input[0], input[1]]);
+    let first = u16::from_le_bytes([input[2], input[3]]);
+    let last = u16::from_le_bytes([input[4], input[5]]);
+    say_sets(rt, &input[6..], flags, first, last)
 }
 
 // The buffer takes 4,096 bytes, and what comes after them is not read. The longest page has 866, so a longer input is refused by a number from 1 to 4,

@@ -1,11 +1,12 @@
 -- `showrun::said` takes the input apart and asks the display. Assumes nothing.
-use mathlib.Core.Path.{◌≡◌}
-use mathlib.Core.List.{List}
+use mathlib.Core.Path.{◌≡◌, ◌∙◌}
+use mathlib.Core.List.{List, [], ◌∷◌}
 use Prim.Native.Nat.{ℕ, ◌-◌}
 use native.Mathlib.Omega.{arith}
-use lib.ListN.{length, take, drop, length-drop}
+use lib.ListN.{length, take, drop, get_or, length-drop}
 use lib.Seq.{take_all}
 use lib.Ieee.{Float}
+use Rattle.std.specs.Int.{w16, from_le_bytes}
 use borrow.Author.Tests.{lt-ltb, le-ltb}
 use Rattle.page.specs.Fields.{word_at}
 use Rattle.display.specs.Shows.{displayed, DisplaySays}
@@ -27,10 +28,14 @@ pub returns-then-input-lt14 : goal.returns-then-input-lt14
 unfolding said_of displayed
 returns-then-input-lt14 c = rw (lt-ltb (length c.args.input.now) 14 (omega arith))
 
+flag_word : (input : List ℕ) → from_le_bytes w16 (get_or input 12 0 ∷ get_or input 13 0 ∷ []) ≡ word_at input 12
+unfolding word_at
+flag_word input = omega arith
+
 pub returns : goal.returns
 unfolding said_of
 returns c =
     let input = c.args.input.now in
     rw (le-ltb (length input) 14 (omega arith))
-    (asked input c.display.result c.reading_at-live.result c.reading_at-second.result c.reading_at-held.result _ c.word_at-flags.result c.reading_at-live.ensures c.reading_at-second.ensures
-    c.reading_at-held.ensures (rest input) c.word_at-flags.ensures c.display.ensures)
+    (asked input c.display.result c.reading_at.result c.reading_at-2.result c.reading_at-3.result _ c.from_le_bytes-flags.result c.reading_at.ensures c.reading_at-2.ensures
+    c.reading_at-3.ensures (rest input) (c.from_le_bytes-flags.ensures ∙ flag_word input) c.display.ensures)

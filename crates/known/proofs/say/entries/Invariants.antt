@@ -1,9 +1,0 @@
--- `known::say::entries` is safe and ends: each turn leaves fewer entries. Assumes nothing.
-use Prim.Native.Nat.{◌-◌}
-use Rattle.known.proofs.say.entries.Given as goal
-
-abbrev pub invariant-loop-k : goal.invariant-loop-k
-invariant-loop-k g l = Unit {0}
-
-abbrev pub decreases-loop-k : goal.decreases-loop-k
-decreases-loop-k g l = l.to - l.k
