@@ -9,6 +9,7 @@ mod fill;
 mod heads;
 mod marks;
 mod rank;
+mod rules;
 mod search;
 pub mod sets;
 mod word;
