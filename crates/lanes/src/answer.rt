@@ -8,6 +8,7 @@ ghost use Rattle.lpod.specs.Answer.{answer};
 ghost use Rattle.words.specs.Coded.{rules_in, pair_in, pairs_in, rules_with, program_in};
 ghost use Rattle.lanes.specs.Lanes as means;
 
+use super::rules::Rules;
 use super::{close, word};
 
 // The lanes in which the two have the same set.
@@ -68,15 +69,14 @@ fn no_pair(pairs: &[u16], w: &[u64; 16], x: u64) -> u64
 
 // The lanes of x whose set satisfies every row and is the least set closed under its reduct. A lane is done where its set is reached. Where it is
 // not, nothing more can come once no row waits there, or a pass has added nothing there.
-fn supported(rows: &[u64], lows: &[u64], flags: u16, b: u16, w: &[u64; 16], x: u64) -> u64
-    requires { (b < 1024) × means.Block b w.now × means.LowBodies rows.now lows.now × (length rows.now ≤ length lows.now) × ((j : ℕ) → j < 64 → T (has x j) → T (inside flags (64 * b + j))) }
-    ensures { (j : ℕ) → j < 64 → has result j ≡ (has x j && (satisfies_all (64 * b + j) (rules_in rows.now) && eqb (least (reduct (rules_with rows.now flags) (64 * b + j))) (64 * b + j))) }
+fn supported(rules: Rules<'_>, flags: u16, b: u16, w: &[u64; 16], x: u64) -> u64
+    requires { (b < 1024) × means.Block b w.now × ((j : ℕ) → j < 64 → T (has x j) → T (inside flags (64 * b + j))) }
+    ensures { (j : ℕ) → j < 64 → has result j ≡ (has x j && (satisfies_all (64 * b + j) (rules_in rules.entry.rows.now) && eqb (least (reduct (rules_with rules.entry.rows.now flags) (64 * b + j))) (64 * b + j))) }
 {
     let mut ok = x;
     let mut cur = flag_words(flags);
-    let mut left: u8 = 16;
-    while 0 < left {
-        let p = close::pass(rows, lows, b, w, &mut cur);
+    for _ in 0..16u8 {
+        let p = close::pass(rules, b, w, &mut cur);
         ok = ok & p.ok;
         if ok == 0 {
             return 0;
@@ -86,23 +86,14 @@ fn supported(rows: &[u64], lows: &[u64], flags: u16, b: u16, w: &[u64; 16], x: u
         if open & p.wait & p.grew == 0 {
             return ok & there;
         }
-        left -= 1;
     }
     ok & same(&cur, w)
 }
 
 // The lanes of x whose set is an answer set. The words of block 0 are given.
-pub fn answers(
-    rows: &[u64],
-    lows: &[u64],
-    zero: &[u64; 16],
-    pairs: &[u16],
-    flags: u16,
-    b: u16,
-    x: u64,
-) -> u64
-    requires { (b < 1024) × means.LowBodies rows.now lows.now × (length rows.now ≤ length lows.now) × means.Block 0 zero.now × ((j : ℕ) → j < 64 → T (has x j) → T (inside flags (64 * b + j))) }
-    ensures { (j : ℕ) → j < 64 → has result j ≡ (has x j && answer (program_in rows.now pairs.now flags) (64 * b + j)) }
+pub fn answers(rules: Rules<'_>, zero: &[u64; 16], pairs: &[u16], flags: u16, b: u16, x: u64) -> u64
+    requires { (b < 1024) × means.Block 0 zero.now × ((j : ℕ) → j < 64 → T (has x j) → T (inside flags (64 * b + j))) }
+    ensures { (j : ℕ) → j < 64 → has result j ≡ (has x j && answer (program_in rules.entry.rows.now pairs.now flags) (64 * b + j)) }
 {
     let mut w = *zero;
     word::to_block(b, &mut w);
@@ -110,5 +101,5 @@ pub fn answers(
     if ok == 0 {
         return 0;
     }
-    supported(rows, lows, flags, b, &w, ok)
+    supported(rules, flags, b, &w, ok)
 }
