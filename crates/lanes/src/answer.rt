@@ -16,11 +16,9 @@ fn same(v: &[u64; 16], w: &[u64; 16]) -> u64
     requires { (length v.now ≡ 16) × (length w.now ≡ 16) }
     ensures { (j : ℕ) → j < 64 → has result j ≡ eqb (means.column v.now j) (means.column w.now j) }
 {
-    let mut acc: u64 = 0xFFFF_FFFF_FFFF_FFFF;
-    let mut k: u32 = 0;
-    while k < 16 {
+    let mut acc = u64::MAX;
+    for k in 0..16 {
         acc = acc & !(word::at(v, k) ^ word::at(w, k));
-        k += 1;
     }
     acc
 }
@@ -59,10 +57,8 @@ fn no_pair(pairs: &[u16], w: &[u64; 16], x: u64) -> u64
     ensures { (j : ℕ) → j < 64 → has result j ≡ (has x j && no_pair (pairs_in pairs.now) (means.column w.now j)) }
 {
     let mut ok = x;
-    let mut n = 0;
-    while n < pairs.len() {
-        ok = ok & !pair_held(pairs[n], w);
-        n += 1;
+    for &pair in pairs {
+        ok = ok & !pair_held(pair, w);
     }
     ok
 }

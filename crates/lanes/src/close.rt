@@ -66,7 +66,7 @@ fn row_pass(row: u64, low: u64, b: u16, w: &[u64; 16], cur: &mut [u64; 16]) -> P
     let x = word::body(row, low, b);
     if x == 0 {
         return Passed {
-            ok: 0xFFFF_FFFF_FFFF_FFFF,
+            ok: u64::MAX,
             wait: 0,
             grew: 0,
         };

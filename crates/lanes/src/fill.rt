@@ -15,7 +15,7 @@ fn between(zero: &[u64; 16], flags: u16, top: u16) -> u64
     requires { Block 0 zero.now }
     ensures { (j : ℕ) → j < 64 → has result j ≡ (inside (flags % 64) j && inside j (top % 64)) }
 {
-    let x = word::all_in(flags % 64, zero, 0xFFFF_FFFF_FFFF_FFFF);
+    let x = word::all_in(flags % 64, zero, u64::MAX);
     word::none_in(63 - top % 64, zero, x)
 }
 
