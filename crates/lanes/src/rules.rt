@@ -1,5 +1,5 @@
-// The rules of a page as the tests in lanes take them.
-ghost use Rattle.std.specs.Prelude.{◌≡◌, ◌≤◌, length};
+// The rows of a page as the tests in lanes take them.
+ghost use Rattle.std.specs.Prelude.{◌≤◌, length};
 ghost use Rattle.lanes.specs.Lanes.{LowBodies};
 
 // The rows in words and, row by row, the lanes in which the low part of the row's body holds.
@@ -9,13 +9,4 @@ pub struct Rules<'a> {
     pub lows: &'a [u64],
     pub ghost fit: { length rows.now ≤ length lows.now },
     pub ghost bodies: { LowBodies rows.now lows.now },
-}
-
-impl<'a> Rules<'a> {
-    pub fn new(rows: &'a [u64], lows: &'a [u64]) -> Rules<'a>
-        requires { (length rows.now ≤ length lows.now) × LowBodies rows.now lows.now }
-        ensures { (result.rows.now ≡ rows.now) × (result.lows.now ≡ lows.now) }
-    {
-        Rules { rows, lows }
-    }
 }

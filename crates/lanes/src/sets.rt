@@ -13,6 +13,7 @@ ghost use Rattle.lanes.specs.Rank.{over, ranks};
 ghost use Rattle.lanes.specs.Search.{sought_best};
 ghost use Rattle.lanes.specs.Sets as means;
 
+use super::rules::Rules;
 use super::{fill, heads, marks, rank, search, word};
 
 // Counts the marked sets, and stores them where there is room for all.
@@ -102,7 +103,8 @@ fn mark(rows: &[u64], pairs: &[u16], flags: u16, top: u16, lows: &mut [u64], mar
 {
     let zero = word::block_words(0);
     word::low_bodies(rows, &zero, &mut *lows);
-    fill::answers(rows, &*lows, &zero, pairs, flags, top, &mut *marks);
+    let rules = Rules { rows, lows: &*lows };
+    fill::answers(rules, &zero, pairs, flags, top, &mut *marks);
 }
 
 // Marks the answer sets in words that have no mark, keeps the best where only these are wanted, and lists what is marked.

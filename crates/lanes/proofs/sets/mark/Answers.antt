@@ -1,6 +1,5 @@
 -- `sets::mark`: what is marked are the answer sets, and so the best of them are the best sets. Assumes nothing.
 use mathlib.Core.Path.{◌∙◌}
-use native.Mathlib.Omega.{arith}
 use Rattle.lanes.proofs.Filled.{inside_high}
 use Rattle.lanes.proofs.AllSets.{flags_top, within_all, all_answers, all_best}
 use Rattle.lanes.proofs.sets.mark.Goals as goal
@@ -9,8 +8,7 @@ pub answers-requires : goal.answers-requires
 answers-requires c =
     let a = c.args in
     let p = c.requires in
-    let e = c.low_bodies.ensures in
-    (e.0, omega (arith, e.1, p.0), c.block_words-zero.ensures, flags_top a.rows.now a.pairs.now a.flags c.ranges.flags.fits a.top p.1, p.2, p.3)
+    (c.block_words-zero.ensures, flags_top a.rows.now a.pairs.now a.flags c.ranges.flags.fits a.top p.1, p.2, p.3)
 
 pub returns : goal.returns
 returns c =
