@@ -34,10 +34,9 @@ fn head_pass(row: u64, t: u64, fire: u64, w: &[u64; 16], cur: &mut [u64; 16]) ->
     ensures { (length cur.new ≡ 16) × ((j : ℕ) → j < 64 → has result.none j ≡ (has t j && none_in (rule_in row).head (means.column w.now j))) × ((j : ℕ) → j < 64 → means.column cur.new j ≡ goes.put (rule_in row).head (means.column w.now j) (has t j && has fire j) (means.column cur.old j)) × ((j : ℕ) → j < 64 → has result.grew j ≡ goes.adds (rule_in row).head (means.column w.now j) (has t j && has fire j) (means.column cur.old j)) }
 {
     let mut x = t;
-    let mut grew: u64 = 0;
+    let mut grew = 0;
     let mut d = (row / 1099511627776) as u32;
-    let mut left = row::head_count(row);
-    while 0 < left {
+    for _ in 0..row::head_count(row) {
         let a = d % 16;
         let y = word::at(w, a);
         let v = x & fire & y;
@@ -45,7 +44,6 @@ fn head_pass(row: u64, t: u64, fire: u64, w: &[u64; 16], cur: &mut [u64; 16]) ->
         put_in(cur, a, v);
         x = x & !y;
         d = d / 16;
-        left -= 1;
     }
     Headed { none: x, grew }
 }
