@@ -18,13 +18,8 @@ pub fn deepest(rows: &[u64]) -> u8
     ensures { result ≡ longest (rules_in rows.now) }
 {
     let mut most: u8 = 1;
-    let mut n = 0;
-    while n < rows.len() {
-        let k = row::head_count(rows[n]);
-        if most < k {
-            most = k;
-        }
-        n += 1;
+    for &word in rows {
+        most = most.max(row::head_count(word));
     }
     most
 }
@@ -34,10 +29,8 @@ pub fn grade(rows: &[u64], set: u16, grades: &mut [u8])
     requires { length rows.now ≤ length grades.old }
     ensures { Grades rows.now grades.new set × (length grades.new ≡ length grades.old) }
 {
-    let mut n = 0;
-    while n < rows.len() {
-        grades[n] = row::degree(rows[n], set);
-        n += 1;
+    for (n, &word) in rows.iter().enumerate() {
+        grades[n] = row::degree(word, set);
     }
 }
 
@@ -47,12 +40,10 @@ pub fn first_rows(grades: &[u8], n: usize) -> u32
     ensures { (i : ℕ) → has result i ≡ (ltb i n && eqb (get_or grades.now i 0) 1) }
 {
     let mut x: u32 = 0;
-    let mut i: usize = 0;
-    while i < n {
+    for i in 0..n {
         if grades[i] == 1 {
-            x = x | (1 << i);
+            x |= 1 << i;
         }
-        i += 1;
     }
     x
 }
@@ -63,16 +54,12 @@ pub fn ranking(rows: &[u64], lows: &[u64], kept: &mut [u64; 32], bodies: &mut [u
     ensures { (result ≤ 32) × (length kept.new ≡ 32) × (length bodies.new ≡ 32) × (take result kept.new ≡ keep ranks rows.now) × LowBodies (take result kept.new) bodies.new }
 {
     let mut count: usize = 0;
-    let mut n = 0;
-    while n < rows.len() {
-        let word = rows[n];
-        let low = lows[n];
+    for (n, &word) in rows.iter().enumerate() {
         if 1 < row::head_count(word) {
             kept[count] = word;
-            bodies[count] = low;
+            bodies[count] = lows[n];
             count += 1;
         }
-        n += 1;
     }
     count
 }
@@ -95,11 +82,9 @@ fn exact(word: u64, low: u64, b: u16, w: &[u64; 16], k: u8) -> u64
         return 0;
     }
     let mut t = x;
-    let mut p: u8 = 1;
-    while p < k {
-        t = t & !word::at(w, d % 16);
-        d = d / 16;
-        p += 1;
+    for _p in 1..k {
+        t &= !word::at(w, d % 16);
+        d /= 16;
     }
     t & word::at(w, d % 16)
 }
@@ -118,15 +103,13 @@ fn at_degree(rows: &[u64], lows: &[u64], grades: &[u8], b: u16, w: &[u64; 16], k
 {
     let mut up: u64 = 0xFFFF_FFFF_FFFF_FFFF;
     let mut down: u64 = 0xFFFF_FFFF_FFFF_FFFF;
-    let mut n = 0;
-    while n < rows.len() {
-        let e = exact(rows[n], lows[n], b, w, k);
+    for (n, &word) in rows.iter().enumerate() {
+        let e = exact(word, lows[n], b, w, k);
         if grades[n] == k {
-            up = up & e;
+            up &= e;
         } else {
-            down = down & !e;
+            down &= !e;
         }
-        n += 1;
     }
     Level { up, down }
 }
@@ -151,20 +134,16 @@ pub fn compare(
     ensures { (M : ℕ) → Grades rows.now grades.now M → (j : ℕ) → j < 64 → (has result.won j ≡ (has among j && over rows.now (64 * b + j) M)) × (has result.lost j ≡ (has among j && over rows.now M (64 * b + j))) }
 {
     let w = word::block_words(b);
-    // A word may say that its head has 255 atoms: the count of degrees goes one further.
-    let last = deepest as u16;
     let mut won: u64 = 0;
     let mut lost: u64 = 0;
     let mut same = among;
-    let mut k: u16 = 1;
-    while k <= last {
-        let l = at_degree(rows, lows, grades, b, &w, k as u8);
+    for k in 1..=deepest {
+        let l = at_degree(rows, lows, grades, b, &w, k);
         let up = same & l.up;
         let down = same & l.down;
-        won = won | (up & !down);
-        lost = lost | (down & !up);
+        won |= up & !down;
+        lost |= down & !up;
         same = up & down;
-        k += 1;
         if same == 0 {
             return Compared { won, lost };
         }
@@ -182,13 +161,10 @@ pub fn firsts(rows: &[u64], lows: &[u64], b: u16, among: u64) -> u32
     }
     let w = word::block_words(b);
     let mut x: u32 = 0;
-    let mut n: usize = 0;
-    while n < rows.len() {
-        let e = exact(rows[n], lows[n], b, &w, 1);
-        if e & among != 0 {
-            x = x | (1 << n);
+    for (n, &word) in rows.iter().enumerate() {
+        if exact(word, lows[n], b, &w, 1) & among != 0 {
+            x |= 1 << n;
         }
-        n += 1;
     }
     x
 }

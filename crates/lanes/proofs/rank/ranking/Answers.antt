@@ -14,28 +14,7 @@ use Rattle.lanes.proofs.rank.ranking.Goals as goal
 use Rattle.lanes.proofs.rank.ranking.Goals.{then-head_count-gt1, else-head_count-gt1}
 
 pub loop-n-init : goal.loop-n-init
-loop-n-init c = let p = c.requires in (omega arith, omega arith, p.3, p.4, refl, λ i l. absurd (omega arith))
-
-pub bounds-lows-n : goal.bounds-lows-n
-bounds-lows-n c = omega (arith, c.requires.2)
-
-pub offset_bounds-kept-count : goal.offset_bounds-kept-count
-offset_bounds-kept-count c = omega (arith, c.requires.0)
-
-pub bounds-kept-count : goal.bounds-kept-count
-bounds-kept-count c = omega (arith, c.requires.0)
-
-pub offset_bounds-bodies-count : goal.offset_bounds-bodies-count
-offset_bounds-bodies-count c = omega (arith, c.requires.0)
-
-pub bounds-bodies-count : goal.bounds-bodies-count
-bounds-bodies-count c = omega (arith, c.requires.0)
-
-pub overflow_add-count : goal.overflow_add-count
-overflow_add-count c = omega (arith, c.requires.0)
-
-pub overflow_add-n : goal.overflow_add-n
-overflow_add-n c = omega (arith, c.requires.0)
+loop-n-init c = let p = c.requires in (omega arith, p.3, p.4, refl, λ i l. absurd (omega arith))
 
 pub loop-n-preserved : goal.loop-n-preserved
 loop-n-preserved c =
@@ -44,40 +23,39 @@ loop-n-preserved c =
     let rows = c.args.rows.now in
     let lows = c.args.lows.now in
     let heads : k.result ≡ head_length (get_or rows h.n 0) = k.ensures ∙ word_heads (get_or rows h.n 0) _ refl in
-    let room : h.count < 32 = omega (arith, c.requires.0, h.invariant.1) in (
-      omega arith,
+    let room : h.count < 32 = omega (arith, c.requires.0, h.invariant.0) in (
       elim c.if-head_count-gt1.branch [
-        | then-head_count-gt1 w ↦ omega (arith, w.count-is, h.invariant.1)
-        | else-head_count-gt1 w ↦ omega (arith, w.count-is, h.invariant.1)
+        | then-head_count-gt1 w ↦ omega (arith, w.count-is, h.invariant.0)
+        | else-head_count-gt1 w ↦ omega (arith, w.count-is, h.invariant.0)
       ],
       elim c.if-head_count-gt1.branch [
-        | then-head_count-gt1 w ↦ ap length w.kept-is ∙ length-set h.kept h.count _ ∙ h.invariant.2
-        | else-head_count-gt1 w ↦ ap length w.kept-is ∙ h.invariant.2
+        | then-head_count-gt1 w ↦ ap length w.kept-is ∙ length-set h.kept h.count _ ∙ h.invariant.1
+        | else-head_count-gt1 w ↦ ap length w.kept-is ∙ h.invariant.1
       ],
       elim c.if-head_count-gt1.branch [
-        | then-head_count-gt1 w ↦ ap length w.bodies-is ∙ length-set h.bodies h.count _ ∙ h.invariant.3
-        | else-head_count-gt1 w ↦ ap length w.bodies-is ∙ h.invariant.3
+        | then-head_count-gt1 w ↦ ap length w.bodies-is ∙ length-set h.bodies h.count _ ∙ h.invariant.2
+        | else-head_count-gt1 w ↦ ap length w.bodies-is ∙ h.invariant.2
       ],
       elim c.if-head_count-gt1.branch [
         | then-head_count-gt1 w ↦
-            rw (w.kept-is, w.count-is) (filled_more h.kept _ _ _ h.count _ (omega (arith, room, h.invariant.2)) h.invariant.4 (keep_on rows h.n (omega arith) (omega (arith, w.if-head_count-gt1.true, heads))))
+            rw (w.kept-is, w.count-is) (filled_more h.kept _ _ _ h.count _ (omega (arith, room, h.invariant.1)) h.invariant.3 (keep_on rows h.n (omega arith) (omega (arith, w.if-head_count-gt1.true, heads))))
         | else-head_count-gt1 w ↦
-            rw (w.kept-is, w.count-is, ← keep_off rows h.n (omega arith) (omega (arith, w.if-head_count-gt1.false, heads))) h.invariant.4
+            rw (w.kept-is, w.count-is, ← keep_off rows h.n (omega arith) (omega (arith, w.if-head_count-gt1.false, heads))) h.invariant.3
       ],
       elim c.if-head_count-gt1.branch [
         | then-head_count-gt1 w ↦
-            rw (w.kept-is, w.bodies-is, w.count-is) (low_both h.kept h.bodies h.count (get_or rows h.n 0) (get_or lows h.n 0) (omega (arith, room, h.invariant.2)) (omega (arith, room, h.invariant.3)) h.invariant.5 (c.requires.1 h.n (omega arith)))
-        | else-head_count-gt1 w ↦ rw (w.kept-is, w.bodies-is, w.count-is) h.invariant.5
+            rw (w.kept-is, w.bodies-is, w.count-is) (low_both h.kept h.bodies h.count (get_or rows h.n 0) (get_or lows h.n 0) (omega (arith, room, h.invariant.1)) (omega (arith, room, h.invariant.2)) h.invariant.4 (c.requires.1 h.n (omega arith)))
+        | else-head_count-gt1 w ↦ rw (w.kept-is, w.bodies-is, w.count-is) h.invariant.4
       ],
     )
 
 pub returns : goal.returns
 returns c =
     let h = c.loop-n in
-    let k : h.count ≤ length h.kept = omega (arith, c.requires.0, h.invariant.0, h.invariant.1, h.invariant.2) in (
-      omega (arith, c.requires.0, h.invariant.0, h.invariant.1),
+    let k : h.count ≤ length h.kept = omega (arith, c.requires.0, h.invariant.0, h.invariant.1) in (
+      omega (arith, c.requires.0, h.invariant.0),
+      h.invariant.1,
       h.invariant.2,
-      h.invariant.3,
-      filled_all h.kept _ _ h.count h.count h.invariant.4 (keep_none c.args.rows.now h.n (omega arith)) refl,
-      λ n l. let m : n < h.count = omega (arith, l, length-take-le h.count h.kept k) in subst (λ (r : ℕ). LowBody r (get_or h.bodies n 0)) (sym (get_or-take h.count h.kept n 0 m)) (h.invariant.5 n m),
+      filled_all h.kept _ _ h.count h.count h.invariant.3 (keep_none c.args.rows.now h.n (omega arith)) refl,
+      λ n l. let m : n < h.count = omega (arith, l, length-take-le h.count h.kept k) in subst (λ (r : ℕ). LowBody r (get_or h.bodies n 0)) (sym (get_or-take h.count h.kept n 0 m)) (h.invariant.4 n m),
     )
