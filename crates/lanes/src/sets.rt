@@ -101,10 +101,9 @@ fn mark(rows: &[u64], pairs: &[u16], flags: u16, top: u16, lows: &mut [u64], mar
     requires { (length rows.now ≤ length lows.old) × (top ≡ top_of (rules_in rows.now) flags) × (length marks.old ≡ top / 64 + 1) × ((s : ℕ) → marked marks.old s ≡ false) }
     ensures { means.Marked rows.now pairs.now flags top marks.new × LowBodies rows.now lows.new × (length lows.new ≡ length lows.old) }
 {
-    let zero = word::block_words(0);
-    word::low_bodies(rows, &zero, &mut *lows);
+    word::low_bodies(rows, &mut *lows);
     let rules = Rules { rows, lows: &*lows };
-    fill::answers(rules, &zero, pairs, flags, top, &mut *marks);
+    fill::answers(rules, pairs, flags, top, &mut *marks);
 }
 
 // Marks the answer sets in words that have no mark, keeps the best where only these are wanted, and lists what is marked.

@@ -8,7 +8,7 @@ pub answers-requires : goal.answers-requires
 answers-requires c =
     let a = c.args in
     let p = c.requires in
-    (c.block_words-zero.ensures, flags_top a.rows.now a.pairs.now a.flags c.ranges.flags.fits a.top p.1, p.2, p.3)
+    (flags_top a.rows.now a.pairs.now a.flags c.ranges.flags.fits a.top p.1, p.2, p.3)
 
 pub returns : goal.returns
 returns c =
