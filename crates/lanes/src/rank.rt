@@ -1,7 +1,7 @@
 // Which sets of a block are preferred to one set, and to which of them it is: in all lanes at once. The degrees of the one set are given, row by row.
 // Only rows with two head atoms or more rank sets that satisfy every row. An index of the rows that have degree 1 tells blocks apart without a look
 // at their lanes.
-ghost use Rattle.std.specs.Prelude.{◌≡◌, ◌&&◌, ℕ, ◌+◌, ◌*◌, ◌≤◌, ◌<◌, T, eqb, ltb, length, get_or, take};
+ghost use Rattle.std.specs.Prelude.{◌≡◌, ◌&&◌, [], ◌∷◌, ◌++◌, ℕ, ◌+◌, ◌*◌, ◌≤◌, ◌<◌, T, eqb, ltb, length, get_or, take};
 ghost use Rattle.atoms.specs.Atoms.{has};
 ghost use Rattle.lpod.specs.Lists.{keep};
 ghost use Rattle.lpod.specs.Degree.{degree};
@@ -10,6 +10,7 @@ ghost use Rattle.words.specs.Coded.{rule_in, rules_in};
 ghost use Rattle.lanes.specs.Lanes.{Says, LowBody, LowBodies};
 ghost use Rattle.lanes.specs.Rank.{over, Grades, ranks};
 
+use crate::rules::Rules;
 use crate::word::{self, Block};
 use words::row;
 
@@ -48,20 +49,59 @@ pub fn first_rows(grades: &[u8], n: usize) -> u32
     x
 }
 
-// Those of the rows that have two head atoms or more, at the start of a lent array, the low parts of their bodies in another, and how many they are.
-pub fn ranking(rows: &[u64], lows: &[u64], kept: &mut [u64; 32], bodies: &mut [u64; 32]) -> usize
-    requires { (length rows.now ≤ 32) × LowBodies rows.now lows.now × (length rows.now ≤ length lows.now) × (length kept.old ≡ 32) × (length bodies.old ≡ 32) }
-    ensures { (result ≤ 32) × (length kept.new ≡ 32) × (length bodies.new ≡ 32) × (take result kept.new ≡ keep ranks rows.now) × LowBodies (take result kept.new) bodies.new }
-{
-    let mut count: usize = 0;
-    for (n, &word) in rows.iter().enumerate() {
-        if 1 < row::head_count(word) {
-            kept[count] = word;
-            bodies[count] = lows[n];
-            count += 1;
+// Rows that are kept, at most 32, and row by row the low parts of their bodies.
+#[derive(Clone, Copy)]
+pub struct Kept {
+    rows: [u64; 32],
+    lows: [u64; 32],
+    count: usize,
+    ghost few: { count ≤ 32 },
+    ghost bodies: { LowBodies (take count rows) lows },
+}
+
+impl Kept {
+    // No row.
+    pub fn none() -> Kept
+        ensures { result.count ≡ 0 }
+    {
+        Kept {
+            rows: [0; 32],
+            lows: [0; 32],
+            count: 0,
         }
     }
-    count
+
+    // One row more.
+    fn push(&mut self, word: u64, low: u64)
+        requires { (self.old.count < 32) × LowBody word low }
+        ensures { (self.new.count ≡ self.old.count + 1) × (take self.new.count self.new.rows ≡ take self.old.count self.old.rows ++ (word ∷ [])) }
+    {
+        self.rows[self.count] = word;
+        self.lows[self.count] = low;
+        self.count += 1;
+    }
+
+    // Keeps those of the rows that have two head atoms or more, where none is kept.
+    pub fn add_ranking(&mut self, rules: Rules)
+        requires { (length rules.rows.now ≤ 32) × (self.old.count ≡ 0) }
+        ensures { take self.new.count self.new.rows ≡ keep ranks rules.entry.rows.now }
+    {
+        for (n, &word) in rules.rows.iter().enumerate() {
+            if 1 < row::head_count(word) {
+                self.push(word, rules.lows[n]);
+            }
+        }
+    }
+
+    // The rows that are kept, as the tests in lanes take them.
+    pub fn rules(&self) -> Rules<'_>
+        ensures { (result.rows.now ≡ take self.now.count self.now.rows) × (length result.rows.now ≤ 32) }
+    {
+        Rules {
+            rows: &self.rows[..self.count],
+            lows: &self.lows,
+        }
+    }
 }
 
 // The lanes in which the row has this degree, from 1 on.
@@ -97,14 +137,14 @@ struct Level {
 }
 
 // A row of this degree in the set that is graded counts for the first word only, any other for the second only.
-fn at_degree(rows: &[u64], lows: &[u64], grades: &[u8], block: &Block, k: u8) -> Level
-    requires { LowBodies rows.now lows.now × (length rows.now ≤ length lows.now) × (length rows.now ≤ length grades.now) × (1 ≤ k) }
-    ensures { (M : ℕ) → Grades rows.now grades.now M → Says block.now.number result.up (λ s. within (rules_in rows.now) k s M) × Says block.now.number result.down (λ s. within (rules_in rows.now) k M s) }
+fn at_degree(rules: Rules, grades: &[u8], block: &Block, k: u8) -> Level
+    requires { (length rules.rows.now ≤ length grades.now) × (1 ≤ k) }
+    ensures { (M : ℕ) → Grades rules.entry.rows.now grades.now M → Says block.now.number result.up (λ s. within (rules_in rules.entry.rows.now) k s M) × Says block.now.number result.down (λ s. within (rules_in rules.entry.rows.now) k M s) }
 {
     let mut up: u64 = 0xFFFF_FFFF_FFFF_FFFF;
     let mut down: u64 = 0xFFFF_FFFF_FFFF_FFFF;
-    for (n, &word) in rows.iter().enumerate() {
-        let e = exact(word, lows[n], block, k);
+    for (n, &word) in rules.rows.iter().enumerate() {
+        let e = exact(word, rules.lows[n], block, k);
         if grades[n] == k {
             up &= e;
         } else {
@@ -122,23 +162,16 @@ pub struct Compared {
 }
 
 // Degree after degree, among the lanes in which all is equal so far.
-pub fn compare(
-    rows: &[u64],
-    lows: &[u64],
-    grades: &[u8],
-    deepest: u8,
-    b: u16,
-    among: u64,
-) -> Compared
-    requires { (b < 1024) × LowBodies rows.now lows.now × (length rows.now ≤ length lows.now) × (length rows.now ≤ length grades.now) × (deepest ≡ longest (rules_in rows.now)) }
-    ensures { (M : ℕ) → Grades rows.now grades.now M → (j : ℕ) → j < 64 → (has result.won j ≡ (has among j && over rows.now (64 * b + j) M)) × (has result.lost j ≡ (has among j && over rows.now M (64 * b + j))) }
+pub fn compare(rules: Rules, grades: &[u8], deepest: u8, b: u16, among: u64) -> Compared
+    requires { (b < 1024) × (length rules.rows.now ≤ length grades.now) × (deepest ≡ longest (rules_in rules.rows.now)) }
+    ensures { (M : ℕ) → Grades rules.entry.rows.now grades.now M → (j : ℕ) → j < 64 → (has result.won j ≡ (has among j && over rules.entry.rows.now (64 * b + j) M)) × (has result.lost j ≡ (has among j && over rules.entry.rows.now M (64 * b + j))) }
 {
     let block = Block::new(b);
     let mut won: u64 = 0;
     let mut lost: u64 = 0;
     let mut same = among;
     for k in 1..=deepest {
-        let l = at_degree(rows, lows, grades, &block, k);
+        let l = at_degree(rules, grades, &block, k);
         let up = same & l.up;
         let down = same & l.down;
         won |= up & !down;
@@ -152,17 +185,17 @@ pub fn compare(
 }
 
 // The index word of a block: bit n where some lane of `among` has degree 1 in row n. Most blocks have no lane that counts.
-pub fn firsts(rows: &[u64], lows: &[u64], b: u16, among: u64) -> u32
-    requires { (b < 1024) × LowBodies rows.now lows.now × (length rows.now ≤ length lows.now) × (length rows.now ≤ 32) }
-    ensures { (n j : ℕ) → n < length rows.now → j < 64 → T (has among j) → degree (64 * b + j) (rule_in (get_or rows.now n 0)) ≡ 1 → T (has result n) }
+pub fn firsts(rules: Rules, b: u16, among: u64) -> u32
+    requires { (b < 1024) × (length rules.rows.now ≤ 32) }
+    ensures { (n j : ℕ) → n < length rules.entry.rows.now → j < 64 → T (has among j) → degree (64 * b + j) (rule_in (get_or rules.entry.rows.now n 0)) ≡ 1 → T (has result n) }
 {
     if among == 0 {
         return 0;
     }
     let block = Block::new(b);
     let mut x: u32 = 0;
-    for (n, &word) in rows.iter().enumerate() {
-        if exact(word, lows[n], &block, 1) & among != 0 {
+    for (n, &word) in rules.rows.iter().enumerate() {
+        if exact(word, rules.lows[n], &block, 1) & among != 0 {
             x |= 1 << n;
         }
     }

@@ -9,16 +9,16 @@ use Rattle.lanes.proofs.rank.compare.Goals as goal
 pub loop-k-init : goal.loop-k-init
 loop-k-init c =
     let a = c.args in
-    compare_start a.rows.now a.grades.now a.b a.among
+    compare_start a.rules.rows.now a.grades.now a.b a.among
 
 pub returns-then-same-eq0 : goal.returns-then-same-eq0
 returns-then-same-eq0 c =
     let x = c.at_degree-l in
     let h = c.loop-k in
     let a = c.args in
-    let r = a.rows.now in
+    let r = a.rules.rows.now in
     let g = a.grades.now in
-    compare_stop r g a.b a.among (h.k + 1 - 1) _ _ _ (omega (arith, c.loop-k-test.true, c.requires.4)) c.if-same-eq0.true
+    compare_stop r g a.b a.among (h.k + 1 - 1) _ _ _ (omega (arith, c.loop-k-test.true, c.requires.2)) c.if-same-eq0.true
     (compare_turn r g a.b a.among h.k h.same h.won h.lost x.result.up x.result.down (omega arith) (omega (arith, x.type_inv)) (omega (arith, x.type_inv)) (rw c.new-block.ensures at x.ensures) h.invariant)
 
 pub loop-k-preserved : goal.loop-k-preserved
@@ -26,7 +26,7 @@ loop-k-preserved c =
     let x = c.at_degree-l in
     let h = c.loop-k in
     let a = c.args in
-    compare_turn a.rows.now a.grades.now a.b a.among h.k h.same h.won h.lost x.result.up x.result.down (omega arith) (omega (arith, x.type_inv)) (omega (arith, x.type_inv))
+    compare_turn a.rules.rows.now a.grades.now a.b a.among h.k h.same h.won h.lost x.result.up x.result.down (omega arith) (omega (arith, x.type_inv)) (omega (arith, x.type_inv))
     (rw c.new-block.ensures at x.ensures) h.invariant
 
 -- the last degree is done
@@ -35,11 +35,11 @@ returns-else-same-eq0 c =
     let x = c.at_degree-l in
     let h = c.loop-k in
     let a = c.args in
-    let r = a.rows.now in
+    let r = a.rules.rows.now in
     let g = a.grades.now in
-    compare_end r g a.b a.among (h.k + 1 - 1) _ _ _ (omega (arith, c.requires.4))
+    compare_end r g a.b a.among (h.k + 1 - 1) _ _ _ (omega (arith, c.requires.2))
     (compare_turn r g a.b a.among h.k h.same h.won h.lost x.result.up x.result.down (omega arith) (omega (arith, x.type_inv)) (omega (arith, x.type_inv)) (rw c.new-block.ensures at x.ensures) h.invariant)
 
 -- there is a degree
 pub returns : goal.returns
-returns c = absurd (omega (arith, c.requires.4, one_longest (rules_in c.args.rows.now)))
+returns c = absurd (omega (arith, c.requires.2, one_longest (rules_in c.args.rules.rows.now)))

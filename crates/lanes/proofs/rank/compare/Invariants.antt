@@ -5,4 +5,4 @@ use Rattle.lanes.proofs.Levels.{ComparedTo}
 use Rattle.lanes.proofs.rank.compare.Given as goal
 
 abbrev pub invariant-loop-k : goal.invariant-loop-k
-invariant-loop-k l = ComparedTo l.rows l.grades l.b l.among (l.k - 1) l.same l.won l.lost
+invariant-loop-k l = ComparedTo l.rules.rows.now l.grades l.b l.among (l.k - 1) l.same l.won l.lost

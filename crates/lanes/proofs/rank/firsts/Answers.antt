@@ -18,8 +18,8 @@ loop-n-preserved c =
     let x = c.exact in
     let h = c.loop-n in
     let a = c.args in
-    let r = a.rows.now in
+    let r = a.rules.rows.now in
     elim c.if-exact-among-ne0.branch [
-      | then-exact-among-ne0 w ↦ rw w.x-is (firsts_on r a.b a.among h.n h.x h.invariant (omega (arith, c.requires.3)))
+      | then-exact-among-ne0 w ↦ rw w.x-is (firsts_on r a.b a.among h.n h.x h.invariant (omega (arith, c.requires.1)))
       | else-exact-among-ne0 w ↦ rw w.x-is (firsts_off r a.b a.among h.n h.x h.invariant x.result (rw c.new-block.ensures at x.ensures) w.if-exact-among-ne0.false)
     ]

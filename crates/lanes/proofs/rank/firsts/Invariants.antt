@@ -4,4 +4,4 @@ use Rattle.lanes.proofs.FirstRows.{FirstsTo}
 use Rattle.lanes.proofs.rank.firsts.Given as goal
 
 abbrev pub invariant-loop-n : goal.invariant-loop-n
-invariant-loop-n l = FirstsTo l.rows l.b l.among l.n l.x
+invariant-loop-n l = FirstsTo l.rules.rows.now l.b l.among l.n l.x
