@@ -69,13 +69,12 @@ fn mark(p: Program, lows: &mut [u64], marks: &mut [u64])
     requires { (length p.rows.now ≤ length lows.old) × (length marks.old ≡ p.top / 64 + 1) × ((s : ℕ) → marked marks.old s ≡ false) }
     ensures { means.Marked p.entry.rows.now p.entry.pairs.now p.entry.flags p.entry.top marks.new × LowBodies p.entry.rows.now lows.new × (length lows.new ≡ length lows.old) }
 {
-    let zero = word::block_words(0);
-    word::low_bodies(p.rows, &zero, &mut *lows);
+    word::low_bodies(p.rows, &mut *lows);
     let rules = Rules {
         rows: p.rows,
         lows: &*lows,
     };
-    fill::answers(rules, &zero, p.pairs, p.flags, p.top, &mut *marks);
+    fill::answers(rules, p.pairs, p.flags, p.top, &mut *marks);
 }
 
 // Marks the answer sets in words that have no mark, keeps the best where only these are wanted, and lists what is marked.
