@@ -119,22 +119,26 @@ fn pick_with(p: Program, index: &mut [u32], marks: &mut [u64]) -> Option<u16>
 
 // The sets that are wanted, found in arrays of N words.
 fn sets_in<const N: usize>(p: Program, which: Which, out: &mut [u16]) -> u32
-    requires { (p.top / 64 < N) × (N ≤ 1024) }
+    requires enough { p.top / 64 < N }
+    requires bounded { N ≤ 1024 }
     ensures { means.FoundSays (means.wanted which (program_in p.entry.rows.now p.entry.pairs.now p.entry.flags)) out.old result out.new }
 {
     let mut index = [0u32; N];
     let mut marks = [0u64; N];
-    sets_with(p, which, &mut index, &mut marks[..p.words()], &mut *out)
+    let lent = &mut marks[..p.words()];
+    sets_with(p, which, &mut index, lent, &mut *out)
 }
 
 // The pick, found in arrays of N words.
 fn pick_in<const N: usize>(p: Program) -> Option<u16>
-    requires { (p.top / 64 < N) × (N ≤ 1024) }
+    requires enough { p.top / 64 < N }
+    requires bounded { N ≤ 1024 }
     ensures { means.found result ≡ bests.pick (program_in p.entry.rows.now p.entry.pairs.now p.entry.flags) }
 {
     let mut index = [0u32; N];
     let mut marks = [0u64; N];
-    pick_with(p, &mut index, &mut marks[..p.words()])
+    let lent = &mut marks[..p.words()];
+    pick_with(p, &mut index, lent)
 }
 
 // How many sets there are: all answer sets, or the best of them. Where the lent slice has room for all they stand at its start, rising; else it is

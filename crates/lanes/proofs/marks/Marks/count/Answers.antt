@@ -25,12 +25,6 @@ overflow_add-n c =
     let b = c.loop-b.b in
     omega (arith, all_length (marked marks) 0, c.loop-b.invariant.2, ones-le 64 (get_or marks b 0) (omega (arith, c.type_inv.words b)))
 
-pub next-b-requires : goal.next-b-requires
-next-b-requires c =
-    let h = c.loop-b in
-    let l : h.b < 1024 = omega arith in
-    (l, (h.invariant.1 l).0, (h.invariant.1 l).1)
-
 pub loop-b-preserved : goal.loop-b-preserved
 loop-b-preserved c =
     let h = c.loop-b in
