@@ -34,41 +34,41 @@ side_value (pos (suc n)) = 1
 side_value (negsuc n) = 2
 
 unfoldable pub pick_word : List ℕ → ℕ → ℕ
-pick_word page flags = let r = picked (pick_no page flags) (pick (program page flags)) in word r.no r.set
+pick_word page flags = let r = picked (pick_no page flags) (pick (program page flags)) in word r.no r.value
 
 unfoldable pub reduct_word : List ℕ → ℕ → ℕ → ℕ
-reduct_word page flags set = let r = reduct_test page flags set in word r.no (bit r.yes)
+reduct_word page flags set = let r = reduct_test page flags set in word r.no (bit r.value)
 
 unfoldable pub here_there_word : List ℕ → ℕ → ℕ → ℕ
-here_there_word page flags set = let r = here_there_test page flags set in word r.no (bit r.yes)
+here_there_word page flags set = let r = here_there_test page flags set in word r.no (bit r.value)
 
 unfoldable pub split_word : List ℕ → ℕ → ℕ → ℕ
 split_word page flags set = let r = split_test page flags set in word r.no r.count
 
 unfoldable pub rounds_word : List ℕ → ℕ → ℕ → ℕ
-rounds_word page flags set = let r = rounds_to page flags set in word r.no r.count
+rounds_word page flags set = let r = rounds_to page flags set in word r.no r.value
 
 unfoldable pub compare_word : List ℕ → ℕ → ℕ → ℕ → ℕ
 compare_word page flags first second =
-    let r = compared (compare_no page flags first second) (compare (program page flags) first second) in word r.no (side_value r.side)
+    let r = compared (compare_no page flags first second) (compare (program page flags) first second) in word r.no (side_value r.value)
 
 -- a list of sets: the word, and the lent slice afterwards
 unfoldable pub sets_word : List ℕ → List ℕ → ℕ → List ℕ → ℕ
-sets_word sets page flags out = let r = listed (list_no page flags sets out) sets in word r.no r.count
+sets_word sets page flags out = let r = listed (list_no page flags sets out) sets in word r.no r.value
 
 abbrev pub SetsGiven : List ℕ → List ℕ → ℕ → List ℕ → ℕ → List ℕ → Type 0
 SetsGiven sets page flags out r after = (r ≡ sets_word sets page flags out) × (after ≡ stored (list_no page flags sets out) sets out)
 
 -- degrees: the word, and the lent slice afterwards
 unfoldable pub degrees_word : List ℕ → ℕ → ℕ → List ℕ → ℕ
-degrees_word page flags set out = let r = graded (degrees_no page flags set (length out)) (row_count page) in word r.no r.count
+degrees_word page flags set out = let r = graded (degrees_no page flags set (length out)) (row_count page) in word r.no r.value
 
 abbrev pub DegreesGiven : List ℕ → ℕ → ℕ → List ℕ → ℕ → List ℕ → Type 0
 DegreesGiven page flags set out r after = (r ≡ degrees_word page flags set out) × (after ≡ degrees_after page flags set out)
 
 -- a page that is made: the word, and the lent slice afterwards
 unfoldable pub write_word : Content → List ℕ → ℕ
-write_word c out = let r = written (write_no c (length out)) c in word r.no r.length
+write_word c out = let r = written (write_no c (length out)) c in word r.no r.value
 
 abbrev pub PageGiven : Content → List ℕ → ℕ → List ℕ → Type 0
 PageGiven c out r after = (r ≡ write_word c out) × (after ≡ stored (write_no c (length out)) (encode c) out)
@@ -87,4 +87,4 @@ unfoldable pub display_word : Float → Float → Float → List ℕ → ℕ →
 display_word live second held page flags =
     let r : Readings = record { live = live; second = second; held = held } in
     let d = displayed (display_no r page flags) (shown_by r page flags) in
-    shown_word d.no d.shown
+    shown_word d.no d.value

@@ -7,25 +7,24 @@ ghost use Rattle.std.specs.Prelude.{◌≡◌};
 ghost use Rattle.lpod.specs.Answer.{answer_sets};
 ghost use Rattle.lpod.specs.Best.{best_sets};
 ghost use Rattle.page.specs.Program.{program};
+ghost use Rattle.page.specs.Answers.{answered};
 ghost use Rattle.page.specs.Letter.{letter_of};
 ghost use Rattle.writer.specs.Content.{content};
+ghost use Rattle.engine.specs.Compare.{side_number};
 ghost use Rattle.capi.specs.Words as means;
 
-// The number and the value as one word.
-fn word(no: u16, value: u16) -> u32
-    ensures { result ≡ means.word no value }
-{
-    65536 * (no as u32) + value as u32
-}
+use display::{Readings, Shown};
+use engine::compare::Side;
+use page::refusal::Refusal;
 
-// Yes is 1, no is 0.
-fn bit(b: bool) -> u16
-    ensures { result ≡ means.bit b }
+// The answer as one word: its value, or 65,536 times the number of its refusal.
+fn word(answer: Result<u16, Refusal>) -> u32
+    ensures { result ≡ means.word (answered 0 answer).no (answered 0 answer).value }
 {
-    if b {
-        return 1;
+    match answer {
+        Ok(value) => u32::from(value),
+        Err(refusal) => 65536 * u32::from(refusal.number()),
     }
-    0
 }
 
 // The pick: the lowest-numbered best set.
@@ -33,8 +32,7 @@ fn bit(b: bool) -> u16
 pub extern "C" fn pipeotter_pick(page: &[u8], flags: u16) -> u32
     ensures { result ≡ means.pick_word page.now flags }
 {
-    let r = engine::pick::pick(page, flags);
-    word(r.no, r.set)
+    word(engine::pick::pick(page, flags))
 }
 
 // Is the set an answer set? By the reduct: 1 yes, 0 no.
@@ -42,8 +40,7 @@ pub extern "C" fn pipeotter_pick(page: &[u8], flags: u16) -> u32
 pub extern "C" fn pipeotter_reduct_test(page: &[u8], flags: u16, set: u16) -> u32
     ensures { result ≡ means.reduct_word page.now flags set }
 {
-    let r = routes::reduct::reduct_test(page, flags, set);
-    word(r.no, bit(r.yes))
+    word(routes::reduct::reduct_test(page, flags, set).map(u16::from))
 }
 
 // The same by here-and-there.
@@ -51,8 +48,7 @@ pub extern "C" fn pipeotter_reduct_test(page: &[u8], flags: u16, set: u16) -> u3
 pub extern "C" fn pipeotter_here_there_test(page: &[u8], flags: u16, set: u16) -> u32
     ensures { result ≡ means.here_there_word page.now flags set }
 {
-    let r = routes::here_there::here_there_test(page, flags, set);
-    word(r.no, bit(r.yes))
+    word(routes::here_there::here_there_test(page, flags, set).map(u16::from))
 }
 
 // In how many split programs the set is an answer set.
@@ -60,8 +56,7 @@ pub extern "C" fn pipeotter_here_there_test(page: &[u8], flags: u16, set: u16) -
 pub extern "C" fn pipeotter_split_test(page: &[u8], flags: u16, set: u16) -> u32
     ensures { result ≡ means.split_word page.now flags set }
 {
-    let r = routes::split::split_test(page, flags, set);
-    word(r.no, r.count)
+    word(routes::split::split_test(page, flags, set))
 }
 
 // How many rounds add something on the way to the set, an answer set or not.
@@ -69,8 +64,7 @@ pub extern "C" fn pipeotter_split_test(page: &[u8], flags: u16, set: u16) -> u32
 pub extern "C" fn pipeotter_rounds(page: &[u8], flags: u16, set: u16) -> u32
     ensures { result ≡ means.rounds_word page.now flags set }
 {
-    let counted = routes::reduct::rounds(page, flags, set);
-    word(counted.no, counted.count as u16)
+    word(routes::reduct::rounds(page, flags, set).map(|count| count as u16))
 }
 
 // All answer sets, rising, into the lent slice; the value is their number.
@@ -78,8 +72,7 @@ pub extern "C" fn pipeotter_rounds(page: &[u8], flags: u16, set: u16) -> u32
 pub extern "C" fn pipeotter_list(page: &[u8], flags: u16, sets: &mut [u16]) -> u32
     ensures { means.SetsGiven (answer_sets (program page.now flags)) page.now flags sets.old result sets.new }
 {
-    let r = engine::list::list(page, flags, &mut *sets);
-    word(r.no, r.count as u16)
+    word(engine::list::list(page, flags, sets).map(|count| count as u16))
 }
 
 // The best sets, likewise.
@@ -87,8 +80,7 @@ pub extern "C" fn pipeotter_list(page: &[u8], flags: u16, sets: &mut [u16]) -> u
 pub extern "C" fn pipeotter_best(page: &[u8], flags: u16, sets: &mut [u16]) -> u32
     ensures { means.SetsGiven (best_sets (program page.now flags)) page.now flags sets.old result sets.new }
 {
-    let r = engine::best::best(page, flags, &mut *sets);
-    word(r.no, r.count as u16)
+    word(engine::best::best(page, flags, sets).map(|count| count as u16))
 }
 
 // The degrees of an answer set, one for each row; the value is the number of rows.
@@ -96,8 +88,7 @@ pub extern "C" fn pipeotter_best(page: &[u8], flags: u16, sets: &mut [u16]) -> u
 pub extern "C" fn pipeotter_degrees(page: &[u8], flags: u16, set: u16, degrees: &mut [u8]) -> u32
     ensures { means.DegreesGiven page.now flags set degrees.old result degrees.new }
 {
-    let r = engine::degrees::degrees(page, flags, set, &mut *degrees);
-    word(r.no, r.count)
+    word(engine::degrees::degrees(page, flags, set, degrees))
 }
 
 // A page made from its parts, in the lent buffer; the value is its length.
@@ -117,21 +108,18 @@ pub extern "C" fn pipeotter_write(
         literals,
         pairs,
     };
-    let r = writer::write(&content, &mut *buffer);
-    word(r.no, r.length)
+    word(writer::write(&content, buffer))
 }
 
 // What C gets for a comparison: 1 the first is preferred, 2 the second, 0 neither.
-fn side_value(side: i8) -> u16
-    ensures { result ≡ means.side_value side }
+fn side_value(side: Side) -> u16
+    ensures { result ≡ means.side_value (side_number side) }
 {
-    if 0 < side {
-        return 1;
+    match side {
+        Side::First => 1,
+        Side::Second => 2,
+        Side::Neither => 0,
     }
-    if side < 0 {
-        return 2;
-    }
-    0
 }
 
 // Which of two answer sets is preferred.
@@ -139,8 +127,7 @@ fn side_value(side: i8) -> u16
 pub extern "C" fn pipeotter_compare(page: &[u8], flags: u16, first: u16, second: u16) -> u32
     ensures { result ≡ means.compare_word page.now flags first second }
 {
-    let r = engine::compare::compare(page, flags, first, second);
-    word(r.no, side_value(r.side))
+    word(engine::compare::compare(page, flags, first, second).map(side_value))
 }
 
 // The panel letter of a refusal number.
@@ -152,14 +139,14 @@ pub extern "C" fn pipeotter_letter(number: u16) -> u8
 }
 
 // What C gets for the case that is shown: 0 no number, 1 live, 2 second, 3 held.
-fn case_value(shown: display::Shown) -> u16
+fn case_value(shown: Shown) -> u16
     ensures { result ≡ means.case_value shown }
 {
     match shown {
-        display::Shown::Live(x) => 1,
-        display::Shown::Second(x) => 2,
-        display::Shown::Held(x) => 3,
-        display::Shown::NoNumber => 0,
+        Shown::Live(_) => 1,
+        Shown::Second(_) => 2,
+        Shown::Held(_) => 3,
+        Shown::NoNumber => 0,
     }
 }
 
@@ -175,8 +162,8 @@ pub extern "C" fn pipeotter_display(
 ) -> u64
     ensures { result ≡ means.display_word live second held page.now flags }
 {
-    let r = display::display(display::Readings { live, second, held }, page, flags);
-    let shown = r.shown;
-    let upper = word(r.no, case_value(shown)) as u64;
-    4294967296 * upper + display::reading::bits_of(display::reading_of(shown)) as u64
+    let answer = display::display(Readings { live, second, held }, page, flags);
+    let upper = u64::from(word(answer.map(case_value)));
+    let shown = answer.unwrap_or(Shown::NoNumber);
+    4294967296 * upper + u64::from(display::reading::bits_of(display::reading_of(shown)))
 }
