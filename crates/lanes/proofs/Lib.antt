@@ -1,3 +1,4 @@
+pub mod WordsFilled
 pub mod Words
 pub mod AtomByAtom
 pub mod Bodies

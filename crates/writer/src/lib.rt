@@ -9,14 +9,8 @@ ghost use Rattle.writer.specs.Content.{header_numbers, two_bytes, four_bytes, en
 ghost use Rattle.writer.specs.Given.{given};
 ghost use Rattle.writer.specs.Writes as means;
 
+use page::refusal::Refusal;
 use page::{accept, ranges};
-
-// The refusal number, and how many bytes the page has; 0 where refused.
-#[derive(Clone, Copy)]
-pub struct Written {
-    pub no: u16,
-    pub length: u16,
-}
 
 // What a page is made from: how many atoms, three counts for each row, the literals row after row, two atoms for each pair.
 #[derive(Clone, Copy)]
@@ -135,27 +129,22 @@ impl<'a> InRange<'a> {
     }
 }
 
-// Makes the page at the start of the lent slice; later bytes keep their content. Refusals 3, 5, 6, 7, 8, then 11 for a slice that is too short.
-pub fn write(content: &Content, buffer: &mut [u8]) -> Written
+// Makes the page at the start of the lent slice; later bytes keep their content. Refusals 3, 5, 6, 7, 8, then 11 for a slice that is too short;
+// else how long the page is.
+pub fn write(content: &Content, buffer: &mut [u8]) -> Result<u16, Refusal>
     ensures { means.WriteSays (given content.now) buffer.old result buffer.new }
 {
     if content.sizes_out() {
-        return Written { no: 3, length: 0 };
+        return Err(Refusal::CountsOut);
     }
     let fit = InRange { content: *content };
     let end = fit.length();
     let mut page = [0u8; 866];
     fit.fill(&mut page[..end]);
-    let no = accept::page_no(&page[..end]);
-    if no != 0 {
-        return Written { no, length: 0 };
-    }
+    accept::check_page(&page[..end])?;
     if buffer.len() < end {
-        return Written { no: 11, length: 0 };
+        return Err(Refusal::NoRoom);
     }
-    put(&page[..end], 0, &mut *buffer);
-    Written {
-        no: 0,
-        length: end as u16,
-    }
+    put(&page[..end], 0, buffer);
+    Ok(end as u16)
 }

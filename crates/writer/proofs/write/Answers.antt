@@ -1,5 +1,7 @@
 -- `write` goes one of four ways: 3 for the sizes, the number of the page that it makes, 11, or the page. Assumes nothing.
-use Rattle.std.proofs.Common.{◌≡◌, sym, ap, ◌∙◌, ◌≤◌, length, take, replicate, ℕ, List, arith}
+use Rattle.std.specs.Prelude.{Err}
+use Rattle.page.specs.declared.refusal.Refusal.TheVariants.{CountsOut}
+use Rattle.std.proofs.Common.{◌≡◌, refl, sym, ap, ◌∙◌, ◌≤◌, length, take, replicate, ℕ, List, arith}
 use lib.Seq.{sets, length-take-le}
 use Rattle.std.proofs.lemmas.List.{length-replicate}
 use Rattle.page.proofs.Refusals.{first_here}
@@ -19,7 +21,7 @@ lent end h =
 
 pub returns-then-sizes_out : goal.returns-then-sizes_out
 unfolding content_no content_refusals
-returns-then-sizes_out c = write_refused _ _ 3 (sym (first_here 3 _ _ _ c.sizes_out.ensures c.if-sizes_out.true)) (λ e. omega arith)
+returns-then-sizes_out c = write_refused _ _ (Err CountsOut) CountsOut refl (sym (first_here 3 _ _ _ c.sizes_out.ensures c.if-sizes_out.true))
 
 -- its sizes are in range
 pub invariant_of-fit : goal.invariant_of-fit
@@ -43,25 +45,28 @@ fill-requires c =
 pub slice_bounds-page-end-2 : goal.slice_bounds-page-end-2
 slice_bounds-page-end-2 c = let end = c.length-end in made_room _ _ _ _ _ c.fill.ensures end.ensures.0 (lent end.result end.ensures.1)
 
-pub returns-then-no-ne0 : goal.returns-then-no-ne0
-returns-then-no-ne0 c =
+pub returns-in_err-check_page : goal.returns-in_err-check_page
+returns-in_err-check_page c =
     let end = c.length-end in
-    let number = made_number _ _ _ _ _ _ (sym c.sizes_out.ensures ∙ c.if-sizes_out.false) c.fill.ensures end.ensures.0 (lent end.result end.ensures.1) c.page_no-no.ensures in
-    write_refused _ _ _ number c.if-no-ne0.true
+    let number = made_number _ _ _ _ _ _ (sym c.sizes_out.ensures ∙ c.if-sizes_out.false) c.fill.ensures end.ensures.0 (lent end.result end.ensures.1)
+    c.in_err-check_page.ensures in
+    write_refused _ _ _ _ c.from_residual.ensures.1 number
 
 pub returns-then-buffer-end : goal.returns-then-buffer-end
 returns-then-buffer-end c =
     let end = c.length-end in
-    let number = made_number _ _ _ _ _ _ (sym c.sizes_out.ensures ∙ c.if-sizes_out.false) c.fill.ensures end.ensures.0 (lent end.result end.ensures.1) c.page_no-no.ensures in
-    write_short _ _ _ number c.if-no-ne0.false (omega (arith, end.ensures.0))
+    let number = made_number _ _ _ _ _ _ (sym c.sizes_out.ensures ∙ c.if-sizes_out.false) c.fill.ensures end.ensures.0 (lent end.result end.ensures.1)
+    c.in_ok-check_page.ensures in
+    write_short _ _ number (omega (arith, end.ensures.0))
 
 pub returns : goal.returns
 returns c =
     let end = c.length-end in
-    let number = made_number _ _ _ _ _ _ (sym c.sizes_out.ensures ∙ c.if-sizes_out.false) c.fill.ensures end.ensures.0 (lent end.result end.ensures.1) c.page_no-no.ensures in
+    let number = made_number _ _ _ _ _ _ (sym c.sizes_out.ensures ∙ c.if-sizes_out.false) c.fill.ensures end.ensures.0 (lent end.result end.ensures.1)
+    c.in_ok-check_page.ensures in
     let a = c.args in
     let s = given a.content.now in
     let room : length (encode s) ≤ length a.buffer.now = omega (arith, end.ensures.0) in
     let made = made_lent _ _ _ _ _ c.fill.ensures end.ensures.0 (lent end.result end.ensures.1) in
-    write_made s _ _ number c.if-no-ne0.false room _ _ end.ensures.0
+    write_made s _ number room _ _ end.ensures.0
     (c.put.ensures ∙ ap (sets a.buffer.now 0) made ∙ over_sets (encode s) a.buffer.now room)

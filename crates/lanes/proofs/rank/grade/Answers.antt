@@ -5,7 +5,7 @@ use native.Mathlib.Omega.{arith}
 use lib.ListN.{length, length-set}
 use Rattle.lpod.specs.Degree.{degree}
 use Rattle.words.specs.Coded.{rule_in, rules_in}
-use Rattle.words.proofs.Filled.{filled_more, filled_all}
+use Rattle.lanes.proofs.WordsFilled.{filled_more, filled_all}
 use Rattle.words.proofs.Rest.{rest_step, rest_none}
 use Rattle.lanes.proofs.rank.grade.Goals as goal
 
