@@ -38,13 +38,13 @@ pair_end e s t = rw e (and-true t)
 -- ---- the lanes that are in: those of x, and after the first pass those whose set satisfies the rows
 module _ (P : List Rule) (I : ℕ) (x : Bool) where
   abbrev pub Kept : ℕ → Bool → Type 0
-  Kept left ok = ok ≡ (x && (eqb left 16 || satisfies_all I P))
+  Kept passes ok = ok ≡ (x && (eqb passes 0 || satisfies_all I P))
 
-  pub kept_start : Kept 16 x
+  pub kept_start : Kept 0 x
   kept_start = sym (and-true x)
 
-  pub kept_turn : (left ok p j : ℕ) → Kept left (has ok j) → has p j ≡ satisfies_all I P → has (bit_and ok p) j ≡ (x && satisfies_all I P)
-  kept_turn left ok p j e q = has_and ok p j ∙ rw (e, q) (go x (eqb left 16) (satisfies_all I P))
+  pub kept_turn : (passes ok p j : ℕ) → Kept passes (has ok j) → has p j ≡ satisfies_all I P → has (bit_and ok p) j ≡ (x && satisfies_all I P)
+  kept_turn passes ok p j e q = has_and ok p j ∙ rw (e, q) (go x (eqb passes 0) (satisfies_all I P))
     where
       go : (x e s : Bool) → ((x && (e || s)) && s) ≡ (x && s)
       go true true s = refl
@@ -52,11 +52,11 @@ module _ (P : List Rule) (I : ℕ) (x : Bool) where
       go true false false = refl
       go false e s = refl
 
-  pub kept_later : (left : ℕ) → left < 16 → (ok : Bool) → ok ≡ (x && satisfies_all I P) → Kept left ok
-  kept_later left l ok e = rw (ne_eqb left 16 (λ q. omega arith)) e
+  pub kept_later : (passes : ℕ) → (0 < passes) → (ok : Bool) → ok ≡ (x && satisfies_all I P) → Kept passes ok
+  kept_later passes l ok e = rw (ne_eqb passes 0 (λ q. omega arith)) e
 
-  pub kept_end : (left : ℕ) → left < 16 → (ok : Bool) → Kept left ok → ok ≡ (x && satisfies_all I P)
-  kept_end left l ok e = e ∙ rw (ne_eqb left 16 (λ q. omega arith))
+  pub kept_end : (passes : ℕ) → 0 < passes → (ok : Bool) → Kept passes ok → ok ≡ (x && satisfies_all I P)
+  kept_end passes l ok e = e ∙ rw (ne_eqb passes 0 (λ q. omega arith))
 
 -- ---- a lane is right if it says so where the rows are satisfied and the set is the least. It may be told
 module _ (P : List Rule) (f I : ℕ) (x ok : Bool) (e : ok ≡ (x && satisfies_all I P)) where

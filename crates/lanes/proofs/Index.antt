@@ -22,6 +22,7 @@ use Rattle.lanes.specs.Lanes.{Says}
 use Rattle.lanes.specs.Marks.{marked, Within}
 use Rattle.lanes.specs.Rank.{over, Grades}
 use Rattle.lanes.specs.Left.{Index, Searched, rival}
+use Rattle.lanes.specs.declared.ranking.Ranking.{Ranking}
 use Rattle.lanes.proofs.Marked.{marked_at, marked_past, none_before, none_to, within_fewer}
 use Rattle.lanes.proofs.Words.{full, has_complement, has_not}
 use Rattle.lanes.proofs.RankedRows.{over_irreflexive}
@@ -66,15 +67,14 @@ index_fewer : (rows index marks fewer : List ℕ) → length fewer ≡ length ma
 index_fewer rows index marks fewer q f g b n j l m k t e =
     g b n j (omega arith) m k (subst T (marked_at marks b j k) (f (64 * b + j) (subst T (sym (marked_at fewer b j k)) t))) e
 
-pub searched_left : (rows index marks fewer : List ℕ) (low high : ℕ) → length fewer ≡ length marks → ((s : ℕ) → T (marked fewer s) → T (marked marks s))
-    → Searched rows marks index low high → Searched rows fewer index low high
-searched_left rows index marks fewer low high q f h = record {
+pub searched_left : (ranking : Ranking) (marks fewer : List ℕ) → length fewer ≡ length marks → ((s : ℕ) → T (marked fewer s) → T (marked marks s))
+    → Searched ranking marks → Searched ranking fewer
+searched_left ranking marks fewer q f h = record {
   few = omega (arith, q, h.few);
   fit = omega (arith, q, h.fit);
   start = omega (arith, q, h.start);
-  order = h.order;
-  between = within_fewer marks low high h.between fewer f;
-  firsts = index_fewer rows index marks fewer q f h.firsts;
+  between = within_fewer marks ranking.span.low ranking.span.high h.between fewer f;
+  firsts = index_fewer ranking.rules.rows.now ranking.index.now marks fewer q f h.firsts;
 }
 
 -- ---- the lanes of a block that are marked and preferred to M
@@ -152,8 +152,8 @@ pub no_rival : (rows grades marks : List ℕ) (M first : ℕ) → Grades rows gr
 no_rival rows grades marks M first g f e s t = false_no (none_over rows grades M g first f (all_ones first (length rows) e) s) (and_r (marked marks s) (over rows s M) t)
 
 -- ---- where a marked set stands
-pub stands : (rows marks index : List ℕ) (low high : ℕ) → Searched rows marks index low high → (s : ℕ) → T (marked marks s)
-    → (s / 64 < length marks) × T (inside low (s / 64)) × T (inside (s / 64) high)
-stands rows marks index low high h s t =
+pub stands : (ranking : Ranking) (marks : List ℕ) → Searched ranking marks → (s : ℕ) → T (marked marks s)
+    → (s / 64 < length marks) × T (inside ranking.span.low (s / 64)) × T (inside (s / 64) ranking.span.high)
+stands ranking marks h s t =
     let l : s < 64 * length marks = lt_of_not-le (λ k. false_no (marked_past marks s k) t) in
     (omega arith, (h.between s t).0, (h.between s t).1)

@@ -31,7 +31,7 @@ use Rattle.lanes.proofs.FirstRows.{grade_at}
 use Rattle.lanes.proofs.Words.{full, has_not, has_full, has_column}
 
 -- ---- the longest head, row by row
-one_longest : (P : List Rule) → 1 ≤ longest P
+pub one_longest : (P : List Rule) → 1 ≤ longest P
 unfolding longest
 one_longest [] = omega arith
 one_longest (r ∷ P) = let h = one_longest P in omega arith

@@ -23,6 +23,10 @@ use Rattle.lanes.specs.Seek.{next_from}
 use Rattle.lanes.proofs.Words.{full, has_not, has_add}
 use Rattle.lanes.proofs.Seek.{NoneBetween, next_is, next_skip}
 
+-- the lowest bit of a word that has one
+pub trailing_below : (x : ℕ) → x < 2 ^ 64 → (x ≡ 0 → ⊥) → count_trailing_zeros 64 x < 64
+trailing_below x small p = has_below 64 x (count_trailing_zeros 64 x) small (lowest_in 64 x small (omega (arith, p)))
+
 module _ (marks : List ℕ) where
   pub marked_at : (b j : ℕ) → j < 64 → marked marks (64 * b + j) ≡ has (get_or marks b 0) j
   unfolding marked
@@ -174,6 +178,10 @@ module _ (marks : List ℕ) (m : ℕ) where
   above_none z = rw place_above at (left_none marks (m / 64) (m % 64 + 1) rest_above rest_shift z)
 
   module _ (small : get_or marks (m / 64) 0 < 2 ^ 64) (p : get_or marks (m / 64) 0 / 2 ^ (m % 64) / 2 ^ 1 ≡ 0 → ⊥) where
+    pub above_below : m % 64 + 1 + count_trailing_zeros 64 (get_or marks (m / 64) 0 / 2 ^ (m % 64) / 2 ^ 1) < 64
+    unfolding rest_above
+    above_below = gap_below marks (m / 64) (m % 64 + 1) rest_above rest_shift small p
+
     pub above_first : m < 65536 → next_from (marked marks) (m + 1) ≡ m + 1 + count_trailing_zeros 64 (get_or marks (m / 64) 0 / 2 ^ (m % 64) / 2 ^ 1)
     unfolding rest_above
     above_first h = rw place_above at (gap_first marks (m / 64) (m % 64 + 1) rest_above rest_shift small p (omega arith))

@@ -1,6 +1,11 @@
 -- Searches among the sets, which are the numbers of 16 bits: the least from a place on that passes a test, and all of them.
-use Rattle.std.specs.Prelude.{Bool, cond, List, ℕ, zero, suc, ◌+◌, ◌-◌}
+use Rattle.std.specs.Prelude.{Bool, cond, List, ℕ, zero, suc, ◌+◌, ◌-◌, Option, Some, None}
 use Rattle.lpod.specs.Lists.{keep, numbers}
+
+-- a set, or 65,536, which is none
+abbrev pub number_of : Option ℕ → ℕ
+number_of None = 65536
+number_of (Some s) = s
 
 module _ (q : ℕ → Bool) where
   -- the least of n numbers from i on that passes; i + n where none does

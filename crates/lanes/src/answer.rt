@@ -8,6 +8,7 @@ ghost use Rattle.lpod.specs.Answer.{answer};
 ghost use Rattle.words.specs.Coded.{rules_in, pair_in, pairs_in, rules_with, program_in};
 ghost use Rattle.lanes.specs.Lanes as means;
 
+use super::rules::Rules;
 use super::{close, word};
 
 // The lanes in which the two have the same set.
@@ -15,11 +16,9 @@ fn same(v: &[u64; 16], w: &[u64; 16]) -> u64
     requires { (length v.now ≡ 16) × (length w.now ≡ 16) }
     ensures { (j : ℕ) → j < 64 → has result j ≡ eqb (means.column v.now j) (means.column w.now j) }
 {
-    let mut acc: u64 = 0xFFFF_FFFF_FFFF_FFFF;
-    let mut k: u32 = 0;
-    while k < 16 {
+    let mut acc = u64::MAX;
+    for k in 0..16 {
         acc = acc & !(word::at(v, k) ^ word::at(w, k));
-        k += 1;
     }
     acc
 }
@@ -58,25 +57,22 @@ fn no_pair(pairs: &[u16], w: &[u64; 16], x: u64) -> u64
     ensures { (j : ℕ) → j < 64 → has result j ≡ (has x j && no_pair (pairs_in pairs.now) (means.column w.now j)) }
 {
     let mut ok = x;
-    let mut n = 0;
-    while n < pairs.len() {
-        ok = ok & !pair_held(pairs[n], w);
-        n += 1;
+    for &pair in pairs {
+        ok = ok & !pair_held(pair, w);
     }
     ok
 }
 
 // The lanes of x whose set satisfies every row and is the least set closed under its reduct. A lane is done where its set is reached. Where it is
 // not, nothing more can come once no row waits there, or a pass has added nothing there.
-fn supported(rows: &[u64], lows: &[u64], flags: u16, b: u16, w: &[u64; 16], x: u64) -> u64
-    requires { (b < 1024) × means.Block b w.now × means.LowBodies rows.now lows.now × (length rows.now ≤ length lows.now) × ((j : ℕ) → j < 64 → T (has x j) → T (inside flags (64 * b + j))) }
-    ensures { (j : ℕ) → j < 64 → has result j ≡ (has x j && (satisfies_all (64 * b + j) (rules_in rows.now) && eqb (least (reduct (rules_with rows.now flags) (64 * b + j))) (64 * b + j))) }
+fn supported(rules: Rules<'_>, flags: u16, b: u16, w: &[u64; 16], x: u64) -> u64
+    requires { (b < 1024) × means.Block b w.now × ((j : ℕ) → j < 64 → T (has x j) → T (inside flags (64 * b + j))) }
+    ensures { (j : ℕ) → j < 64 → has result j ≡ (has x j && (satisfies_all (64 * b + j) (rules_in rules.entry.rows.now) && eqb (least (reduct (rules_with rules.entry.rows.now flags) (64 * b + j))) (64 * b + j))) }
 {
     let mut ok = x;
     let mut cur = flag_words(flags);
-    let mut left: u8 = 16;
-    while 0 < left {
-        let p = close::pass(rows, lows, b, w, &mut cur);
+    for _ in 0..16u8 {
+        let p = close::pass(rules, b, w, &mut cur);
         ok = ok & p.ok;
         if ok == 0 {
             return 0;
@@ -86,23 +82,14 @@ fn supported(rows: &[u64], lows: &[u64], flags: u16, b: u16, w: &[u64; 16], x: u
         if open & p.wait & p.grew == 0 {
             return ok & there;
         }
-        left -= 1;
     }
     ok & same(&cur, w)
 }
 
 // The lanes of x whose set is an answer set. The words of block 0 are given.
-pub fn answers(
-    rows: &[u64],
-    lows: &[u64],
-    zero: &[u64; 16],
-    pairs: &[u16],
-    flags: u16,
-    b: u16,
-    x: u64,
-) -> u64
-    requires { (b < 1024) × means.LowBodies rows.now lows.now × (length rows.now ≤ length lows.now) × means.Block 0 zero.now × ((j : ℕ) → j < 64 → T (has x j) → T (inside flags (64 * b + j))) }
-    ensures { (j : ℕ) → j < 64 → has result j ≡ (has x j && answer (program_in rows.now pairs.now flags) (64 * b + j)) }
+pub fn answers(rules: Rules<'_>, zero: &[u64; 16], pairs: &[u16], flags: u16, b: u16, x: u64) -> u64
+    requires { (b < 1024) × means.Block 0 zero.now × ((j : ℕ) → j < 64 → T (has x j) → T (inside flags (64 * b + j))) }
+    ensures { (j : ℕ) → j < 64 → has result j ≡ (has x j && answer (program_in rules.entry.rows.now pairs.now flags) (64 * b + j)) }
 {
     let mut w = *zero;
     word::to_block(b, &mut w);
@@ -110,5 +97,5 @@ pub fn answers(
     if ok == 0 {
         return 0;
     }
-    supported(rows, lows, flags, b, &w, ok)
+    supported(rules, flags, b, &w, ok)
 }

@@ -8,6 +8,7 @@ ghost use Rattle.words.specs.Coded.{rule_in, rules_in};
 ghost use Rattle.lanes.specs.Lanes as means;
 ghost use Rattle.lanes.specs.Pass as goes;
 
+use super::rules::Rules;
 use super::word;
 use words::row;
 
@@ -65,7 +66,7 @@ fn row_pass(row: u64, low: u64, b: u16, w: &[u64; 16], cur: &mut [u64; 16]) -> P
     let x = word::body(row, low, b);
     if x == 0 {
         return Passed {
-            ok: 0xFFFF_FFFF_FFFF_FFFF,
+            ok: u64::MAX,
             wait: 0,
             grew: 0,
         };
@@ -80,20 +81,18 @@ fn row_pass(row: u64, low: u64, b: u16, w: &[u64; 16], cur: &mut [u64; 16]) -> P
 }
 
 // All rows, one after the other.
-pub fn pass(rows: &[u64], lows: &[u64], b: u16, w: &[u64; 16], cur: &mut [u64; 16]) -> Passed
-    requires { (b < 1024) × means.Block b w.now × means.LowBodies rows.now lows.now × (length rows.now ≤ length lows.now) × (length cur.old ≡ 16) }
-    ensures { (length cur.new ≡ 16) × means.Says b result.ok (λ s. satisfies_all s (rules_in rows.now)) × ((j : ℕ) → j < 64 → has result.wait j ≡ goes.waits (rules_in rows.now) (64 * b + j) (means.column cur.old j)) × ((j : ℕ) → j < 64 → means.column cur.new j ≡ goes.pass (rules_in rows.now) (64 * b + j) (means.column cur.old j)) × ((j : ℕ) → j < 64 → has result.grew j ≡ goes.grows (rules_in rows.now) (64 * b + j) (means.column cur.old j)) }
+pub fn pass(rules: Rules<'_>, b: u16, w: &[u64; 16], cur: &mut [u64; 16]) -> Passed
+    requires { (b < 1024) × means.Block b w.now × (length cur.old ≡ 16) }
+    ensures { (length cur.new ≡ 16) × means.Says b result.ok (λ s. satisfies_all s (rules_in rules.entry.rows.now)) × ((j : ℕ) → j < 64 → has result.wait j ≡ goes.waits (rules_in rules.entry.rows.now) (64 * b + j) (means.column cur.old j)) × ((j : ℕ) → j < 64 → means.column cur.new j ≡ goes.pass (rules_in rules.entry.rows.now) (64 * b + j) (means.column cur.old j)) × ((j : ℕ) → j < 64 → has result.grew j ≡ goes.grows (rules_in rules.entry.rows.now) (64 * b + j) (means.column cur.old j)) }
 {
-    let mut ok: u64 = 0xFFFF_FFFF_FFFF_FFFF;
-    let mut wait: u64 = 0;
-    let mut grew: u64 = 0;
-    let mut n = 0;
-    while n < rows.len() {
-        let r = row_pass(rows[n], lows[n], b, w, cur);
+    let mut ok = u64::MAX;
+    let mut wait = 0;
+    let mut grew = 0;
+    for (n, &row) in rules.rows.iter().enumerate() {
+        let r = row_pass(row, rules.lows[n], b, w, cur);
         ok = ok & r.ok;
         wait = wait | r.wait;
         grew = grew | r.grew;
-        n += 1;
     }
     Passed { ok, wait, grew }
 }

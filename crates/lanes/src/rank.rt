@@ -1,7 +1,7 @@
 // Which sets of a block are preferred to one set, and to which of them it is: in all lanes at once. The degrees of the one set are given, row by row.
 // Only rows with two head atoms or more rank sets that satisfy every row. An index of the rows that have degree 1 tells blocks apart without a look
 // at their lanes.
-ghost use Rattle.std.specs.Prelude.{◌≡◌, ◌&&◌, ℕ, ◌+◌, ◌*◌, ◌≤◌, ◌<◌, T, eqb, ltb, length, get_or, take};
+ghost use Rattle.std.specs.Prelude.{◌≡◌, ◌&&◌, [], ◌∷◌, ◌++◌, ℕ, ◌+◌, ◌*◌, ◌≤◌, ◌<◌, T, eqb, ltb, length, get_or, take};
 ghost use Rattle.atoms.specs.Atoms.{has};
 ghost use Rattle.lpod.specs.Lists.{keep};
 ghost use Rattle.lpod.specs.Degree.{degree};
@@ -10,6 +10,7 @@ ghost use Rattle.words.specs.Coded.{rule_in, rules_in};
 ghost use Rattle.lanes.specs.Lanes.{Says, Block, LowBody, LowBodies};
 ghost use Rattle.lanes.specs.Rank.{over, Grades, ranks};
 
+use crate::rules::Rules;
 use crate::word;
 use words::row;
 
@@ -18,13 +19,8 @@ pub fn deepest(rows: &[u64]) -> u8
     ensures { result ≡ longest (rules_in rows.now) }
 {
     let mut most: u8 = 1;
-    let mut n = 0;
-    while n < rows.len() {
-        let k = row::head_count(rows[n]);
-        if most < k {
-            most = k;
-        }
-        n += 1;
+    for &word in rows {
+        most = most.max(row::head_count(word));
     }
     most
 }
@@ -34,10 +30,8 @@ pub fn grade(rows: &[u64], set: u16, grades: &mut [u8])
     requires { length rows.now ≤ length grades.old }
     ensures { Grades rows.now grades.new set × (length grades.new ≡ length grades.old) }
 {
-    let mut n = 0;
-    while n < rows.len() {
-        grades[n] = row::degree(rows[n], set);
-        n += 1;
+    for (n, &word) in rows.iter().enumerate() {
+        grades[n] = row::degree(word, set);
     }
 }
 
@@ -47,34 +41,67 @@ pub fn first_rows(grades: &[u8], n: usize) -> u32
     ensures { (i : ℕ) → has result i ≡ (ltb i n && eqb (get_or grades.now i 0) 1) }
 {
     let mut x: u32 = 0;
-    let mut i: usize = 0;
-    while i < n {
+    for i in 0..n {
         if grades[i] == 1 {
-            x = x | (1 << i);
+            x |= 1 << i;
         }
-        i += 1;
     }
     x
 }
 
-// Those of the rows that have two head atoms or more, at the start of a lent array, the low parts of their bodies in another, and how many they are.
-pub fn ranking(rows: &[u64], lows: &[u64], kept: &mut [u64; 32], bodies: &mut [u64; 32]) -> usize
-    requires { (length rows.now ≤ 32) × LowBodies rows.now lows.now × (length rows.now ≤ length lows.now) × (length kept.old ≡ 32) × (length bodies.old ≡ 32) }
-    ensures { (result ≤ 32) × (length kept.new ≡ 32) × (length bodies.new ≡ 32) × (take result kept.new ≡ keep ranks rows.now) × LowBodies (take result kept.new) bodies.new }
-{
-    let mut count: usize = 0;
-    let mut n = 0;
-    while n < rows.len() {
-        let word = rows[n];
-        let low = lows[n];
-        if 1 < row::head_count(word) {
-            kept[count] = word;
-            bodies[count] = low;
-            count += 1;
+// Rows that are kept, at most 32, and row by row the low parts of their bodies.
+#[derive(Clone, Copy)]
+pub struct Kept {
+    rows: [u64; 32],
+    lows: [u64; 32],
+    count: usize,
+    ghost few: { count ≤ 32 },
+    ghost bodies: { LowBodies (take count rows) lows },
+}
+
+impl Kept {
+    // No row.
+    pub fn none() -> Kept
+        ensures { result.count ≡ 0 }
+    {
+        Kept {
+            rows: [0; 32],
+            lows: [0; 32],
+            count: 0,
         }
-        n += 1;
     }
-    count
+
+    // One row more.
+    fn push(&mut self, word: u64, low: u64)
+        requires { (self.old.count < 32) × LowBody word low }
+        ensures { (self.new.count ≡ self.old.count + 1) × (take self.new.count self.new.rows ≡ take self.old.count self.old.rows ++ (word ∷ [])) }
+    {
+        self.rows[self.count] = word;
+        self.lows[self.count] = low;
+        self.count += 1;
+    }
+
+    // Keeps those of the rows that have two head atoms or more, where none is kept.
+    pub fn add_ranking(&mut self, rules: Rules)
+        requires { (length rules.rows.now ≤ 32) × (self.old.count ≡ 0) }
+        ensures { take self.new.count self.new.rows ≡ keep ranks rules.entry.rows.now }
+    {
+        for (n, &word) in rules.rows.iter().enumerate() {
+            if 1 < row::head_count(word) {
+                self.push(word, rules.lows[n]);
+            }
+        }
+    }
+
+    // The rows that are kept, as the tests in lanes take them.
+    pub fn rules(&self) -> Rules<'_>
+        ensures { (result.rows.now ≡ take self.now.count self.now.rows) × (length result.rows.now ≤ 32) }
+    {
+        Rules {
+            rows: &self.rows[..self.count],
+            lows: &self.lows,
+        }
+    }
 }
 
 // The lanes in which the row has this degree, from 1 on.
@@ -95,11 +122,9 @@ fn exact(word: u64, low: u64, b: u16, w: &[u64; 16], k: u8) -> u64
         return 0;
     }
     let mut t = x;
-    let mut p: u8 = 1;
-    while p < k {
-        t = t & !word::at(w, d % 16);
-        d = d / 16;
-        p += 1;
+    for _p in 1..k {
+        t &= !word::at(w, d % 16);
+        d /= 16;
     }
     t & word::at(w, d % 16)
 }
@@ -112,21 +137,19 @@ struct Level {
 }
 
 // A row of this degree in the set that is graded counts for the first word only, any other for the second only.
-fn at_degree(rows: &[u64], lows: &[u64], grades: &[u8], b: u16, w: &[u64; 16], k: u8) -> Level
-    requires { (b < 1024) × Block b w.now × LowBodies rows.now lows.now × (length rows.now ≤ length lows.now) × (length rows.now ≤ length grades.now) × (1 ≤ k) }
-    ensures { (M : ℕ) → Grades rows.now grades.now M → Says b result.up (λ s. within (rules_in rows.now) k s M) × Says b result.down (λ s. within (rules_in rows.now) k M s) }
+fn at_degree(rules: Rules, grades: &[u8], b: u16, w: &[u64; 16], k: u8) -> Level
+    requires { (b < 1024) × Block b w.now × (length rules.rows.now ≤ length grades.now) × (1 ≤ k) }
+    ensures { (M : ℕ) → Grades rules.entry.rows.now grades.now M → Says b result.up (λ s. within (rules_in rules.entry.rows.now) k s M) × Says b result.down (λ s. within (rules_in rules.entry.rows.now) k M s) }
 {
     let mut up: u64 = 0xFFFF_FFFF_FFFF_FFFF;
     let mut down: u64 = 0xFFFF_FFFF_FFFF_FFFF;
-    let mut n = 0;
-    while n < rows.len() {
-        let e = exact(rows[n], lows[n], b, w, k);
+    for (n, &word) in rules.rows.iter().enumerate() {
+        let e = exact(word, rules.lows[n], b, w, k);
         if grades[n] == k {
-            up = up & e;
+            up &= e;
         } else {
-            down = down & !e;
+            down &= !e;
         }
-        n += 1;
     }
     Level { up, down }
 }
@@ -139,32 +162,21 @@ pub struct Compared {
 }
 
 // Degree after degree, among the lanes in which all is equal so far.
-pub fn compare(
-    rows: &[u64],
-    lows: &[u64],
-    grades: &[u8],
-    deepest: u8,
-    b: u16,
-    among: u64,
-) -> Compared
-    requires { (b < 1024) × LowBodies rows.now lows.now × (length rows.now ≤ length lows.now) × (length rows.now ≤ length grades.now) × (deepest ≡ longest (rules_in rows.now)) }
-    ensures { (M : ℕ) → Grades rows.now grades.now M → (j : ℕ) → j < 64 → (has result.won j ≡ (has among j && over rows.now (64 * b + j) M)) × (has result.lost j ≡ (has among j && over rows.now M (64 * b + j))) }
+pub fn compare(rules: Rules, grades: &[u8], deepest: u8, b: u16, among: u64) -> Compared
+    requires { (b < 1024) × (length rules.rows.now ≤ length grades.now) × (deepest ≡ longest (rules_in rules.rows.now)) }
+    ensures { (M : ℕ) → Grades rules.entry.rows.now grades.now M → (j : ℕ) → j < 64 → (has result.won j ≡ (has among j && over rules.entry.rows.now (64 * b + j) M)) × (has result.lost j ≡ (has among j && over rules.entry.rows.now M (64 * b + j))) }
 {
     let w = word::block_words(b);
-    // A word may say that its head has 255 atoms: the count of degrees goes one further.
-    let last = deepest as u16;
     let mut won: u64 = 0;
     let mut lost: u64 = 0;
     let mut same = among;
-    let mut k: u16 = 1;
-    while k <= last {
-        let l = at_degree(rows, lows, grades, b, &w, k as u8);
+    for k in 1..=deepest {
+        let l = at_degree(rules, grades, b, &w, k);
         let up = same & l.up;
         let down = same & l.down;
-        won = won | (up & !down);
-        lost = lost | (down & !up);
+        won |= up & !down;
+        lost |= down & !up;
         same = up & down;
-        k += 1;
         if same == 0 {
             return Compared { won, lost };
         }
@@ -173,22 +185,19 @@ pub fn compare(
 }
 
 // The index word of a block: bit n where some lane of `among` has degree 1 in row n. Most blocks have no lane that counts.
-pub fn firsts(rows: &[u64], lows: &[u64], b: u16, among: u64) -> u32
-    requires { (b < 1024) × LowBodies rows.now lows.now × (length rows.now ≤ length lows.now) × (length rows.now ≤ 32) }
-    ensures { (n j : ℕ) → n < length rows.now → j < 64 → T (has among j) → degree (64 * b + j) (rule_in (get_or rows.now n 0)) ≡ 1 → T (has result n) }
+pub fn firsts(rules: Rules, b: u16, among: u64) -> u32
+    requires { (b < 1024) × (length rules.rows.now ≤ 32) }
+    ensures { (n j : ℕ) → n < length rules.entry.rows.now → j < 64 → T (has among j) → degree (64 * b + j) (rule_in (get_or rules.entry.rows.now n 0)) ≡ 1 → T (has result n) }
 {
     if among == 0 {
         return 0;
     }
     let w = word::block_words(b);
     let mut x: u32 = 0;
-    let mut n: usize = 0;
-    while n < rows.len() {
-        let e = exact(rows[n], lows[n], b, &w, 1);
-        if e & among != 0 {
-            x = x | (1 << n);
+    for (n, &word) in rules.rows.iter().enumerate() {
+        if exact(word, rules.lows[n], b, &w, 1) & among != 0 {
+            x |= 1 << n;
         }
-        n += 1;
     }
     x
 }

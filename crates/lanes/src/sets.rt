@@ -1,218 +1,162 @@
 // The answer sets of rows and pairs in words and a flag word: all of them or the best, in lent memory, and the pick. Any words, flag word and slice
 // will do.
-ghost use Rattle.std.specs.Prelude.{◌≡◌, false, cond, ℕ, ◌+◌, ◌/◌, ◌≤◌, ◌<◌, T, length};
-ghost use Rattle.atoms.specs.Atoms.{inside};
+ghost use Rattle.std.specs.Prelude.{◌≡◌, false, ℕ, ◌+◌, ◌/◌, ◌≤◌, ◌<◌, T, length};
 ghost use Rattle.lpod.specs.Lists.{keep};
 ghost use Rattle.lpod.specs.Best as bests;
 ghost use Rattle.words.specs.Coded.{rules_in, program_in};
 ghost use Rattle.lanes.specs.Lanes.{LowBodies};
-ghost use Rattle.lanes.specs.Seek.{next_from, all_from};
+ghost use Rattle.lanes.specs.Seek.{number_of, next_from, all_from};
 ghost use Rattle.lanes.specs.Marks.{marked, Within};
 ghost use Rattle.lanes.specs.Tried.{top_of};
 ghost use Rattle.lanes.specs.Rank.{over, ranks};
 ghost use Rattle.lanes.specs.Search.{sought_best};
 ghost use Rattle.lanes.specs.Sets as means;
 
-use super::{fill, heads, marks, rank, search, word};
+use super::marks::Marks;
+use super::program::Program;
+use super::rank::Kept;
+use super::ranking::Ranking;
+use super::rules::Rules;
+use super::span::Span;
+use super::{fill, word};
+
+// Which sets: all answer sets, or the best of them.
+#[derive(Clone, Copy, Debug, PartialEq, Eq)]
+pub enum Which {
+    All,
+    Best,
+}
 
 // Counts the marked sets, and stores them where there is room for all.
-fn listed(marks: &[u64], low: u16, high: u16, out: &mut [u16]) -> u32
-    requires { (length marks.now ≤ 1024) × Within marks.now low high × T (inside low high) × (low < length marks.now) }
-    ensures { means.FoundSays (all_from (marked marks.now) 0) out.old result out.new }
+fn listed(marks: Marks, out: &mut [u16]) -> u32
+    ensures { means.FoundSays (all_from (marked marks.entry.words.now) 0) out.old result out.new }
 {
-    let count = marks::count(marks, low, high);
+    let count = marks.count();
     if out.len() < count as usize {
         return count;
     }
-    marks::store(marks, low, high, &mut *out);
+    marks.store(&mut *out);
     count
 }
 
-// Of the marked sets only the best by these rows keep their marks.
-fn keep_best(rows: &[u64], lows: &[u64], low: u16, high: u16, index: &mut [u32], marks: &mut [u64])
-    requires { (length rows.now ≤ 32) × LowBodies rows.now lows.now × (length rows.now ≤ length lows.now) × (length marks.old ≤ 1024) × (length marks.old ≤ length index.old) × (low < length marks.old) × T (inside low high) × Within marks.old low high }
-    ensures { (length marks.new ≡ length marks.old) × Within marks.new low high × ((s : ℕ) → s < 65536 → marked marks.new s ≡ sought_best (over rows.now) marks.old s) }
-{
-    let deepest = rank::deepest(rows);
-    search::indexes(rows, lows, &*marks, low, high, &mut *index);
-    search::keep_best(rows, lows, deepest, low, high, &*index, &mut *marks);
-}
-
-// The least of the marked sets that are best by these rows.
-fn first_best(
-    rows: &[u64],
-    lows: &[u64],
-    low: u16,
-    high: u16,
-    index: &mut [u32],
-    marks: &mut [u64],
-) -> u32
-    requires { (length rows.now ≤ 32) × LowBodies rows.now lows.now × (length rows.now ≤ length lows.now) × (length marks.old ≤ 1024) × (length marks.old ≤ length index.old) × (low < length marks.old) × T (inside low high) × Within marks.old low high }
-    ensures { result ≡ next_from (sought_best (over rows.now) marks.old) 0 }
-{
-    let deepest = rank::deepest(rows);
-    search::indexes(rows, lows, &*marks, low, high, &mut *index);
-    search::first_best(rows, lows, deepest, low, high, &*index, &mut *marks)
-}
-
 // Where only the best are wanted, only the best of the marked sets keep their marks. Rows that do not rank are left out.
-fn keep_wanted(
-    rows: &[u64],
-    lows: &[u64],
-    low: u16,
-    high: u16,
-    best: bool,
-    index: &mut [u32],
-    marks: &mut [u64],
-)
-    requires { (length rows.now ≤ 32) × LowBodies rows.now lows.now × (length rows.now ≤ length lows.now) × (length marks.old ≤ 1024) × (length marks.old ≤ length index.old) × (low < length marks.old) × T (inside low high) × Within marks.old low high }
-    ensures { (length marks.new ≡ length marks.old) × Within marks.new low high × (all_from (marked marks.new) 0 ≡ cond best (all_from (sought_best (over (keep ranks rows.now)) marks.old) 0) (all_from (marked marks.old) 0)) }
+fn keep_wanted(rules: Rules, span: Span, which: Which, index: &mut [u32], marks: &mut [u64])
+    requires { (length rules.rows.now ≤ 32) × (length marks.old ≤ 1024) × (length marks.old ≤ length index.old) × (span.low < length marks.old) × Within marks.old span.low span.high }
+    ensures { (length marks.new ≡ length marks.old) × Within marks.new span.low span.high × (all_from (marked marks.new) 0 ≡ means.kept which (keep ranks rules.entry.rows.now) marks.old) }
 {
-    if !best {
+    if which == Which::All {
         return;
     }
-    let mut kept = [0u64; 32];
-    let mut bodies = [0u64; 32];
-    let n = rank::ranking(rows, lows, &mut kept, &mut bodies);
-    keep_best(&kept[..n], &bodies, low, high, &mut *index, &mut *marks);
+    let mut kept = Kept::none();
+    kept.add_ranking(rules);
+    let ranking = Ranking::new(kept.rules(), span, &*marks, &mut *index);
+    ranking.keep_best(&mut *marks);
 }
 
 // The least of the best marked sets. Rows that do not rank are left out.
-fn first_best_by(
-    rows: &[u64],
-    lows: &[u64],
-    low: u16,
-    high: u16,
-    index: &mut [u32],
-    marks: &mut [u64],
-) -> u32
-    requires { (length rows.now ≤ 32) × LowBodies rows.now lows.now × (length rows.now ≤ length lows.now) × (length marks.old ≤ 1024) × (length marks.old ≤ length index.old) × (low < length marks.old) × T (inside low high) × Within marks.old low high }
-    ensures { result ≡ next_from (sought_best (over (keep ranks rows.now)) marks.old) 0 }
+fn first_best(rules: Rules, span: Span, index: &mut [u32], marks: &mut [u64]) -> Option<u16>
+    requires { (length rules.rows.now ≤ 32) × (length marks.old ≤ 1024) × (length marks.old ≤ length index.old) × (span.low < length marks.old) × Within marks.old span.low span.high }
+    ensures { number_of result ≡ next_from (sought_best (over (keep ranks rules.entry.rows.now)) marks.old) 0 }
 {
-    let mut kept = [0u64; 32];
-    let mut bodies = [0u64; 32];
-    let n = rank::ranking(rows, lows, &mut kept, &mut bodies);
-    first_best(&kept[..n], &bodies, low, high, &mut *index, &mut *marks)
+    let mut kept = Kept::none();
+    kept.add_ranking(rules);
+    let ranking = Ranking::new(kept.rules(), span, &*marks, &mut *index);
+    ranking.first_best(&mut *marks)
 }
 
 // Marks the answer sets in words that have no mark. The low parts of the bodies are left in a lent slice.
-fn mark(rows: &[u64], pairs: &[u16], flags: u16, top: u16, lows: &mut [u64], marks: &mut [u64])
-    requires { (length rows.now ≤ length lows.old) × (top ≡ top_of (rules_in rows.now) flags) × (length marks.old ≡ top / 64 + 1) × ((s : ℕ) → marked marks.old s ≡ false) }
-    ensures { means.Marked rows.now pairs.now flags top marks.new × LowBodies rows.now lows.new × (length lows.new ≡ length lows.old) }
+fn mark(p: Program, lows: &mut [u64], marks: &mut [u64])
+    requires { (length p.rows.now ≤ length lows.old) × (length marks.old ≡ p.top / 64 + 1) × ((s : ℕ) → marked marks.old s ≡ false) }
+    ensures { means.Marked p.entry.rows.now p.entry.pairs.now p.entry.flags p.entry.top marks.new × LowBodies p.entry.rows.now lows.new × (length lows.new ≡ length lows.old) }
 {
     let zero = word::block_words(0);
-    word::low_bodies(rows, &zero, &mut *lows);
-    fill::answers(rows, &*lows, &zero, pairs, flags, top, &mut *marks);
+    word::low_bodies(p.rows, &zero, &mut *lows);
+    let rules = Rules {
+        rows: p.rows,
+        lows: &*lows,
+    };
+    fill::answers(rules, &zero, p.pairs, p.flags, p.top, &mut *marks);
 }
 
 // Marks the answer sets in words that have no mark, keeps the best where only these are wanted, and lists what is marked.
 fn sets_with(
-    rows: &[u64],
-    pairs: &[u16],
-    flags: u16,
-    top: u16,
-    best: bool,
+    p: Program,
+    which: Which,
     index: &mut [u32],
     marks: &mut [u64],
     out: &mut [u16],
 ) -> u32
-    requires { (length rows.now ≤ 32) × (top ≡ top_of (rules_in rows.now) flags) × (length marks.old ≡ top / 64 + 1) × ((s : ℕ) → marked marks.old s ≡ false) × (length marks.old ≤ length index.old) }
-    ensures { means.FoundSays (means.wanted best (program_in rows.now pairs.now flags)) out.old result out.new }
+    requires { (length marks.old ≡ p.top / 64 + 1) × ((s : ℕ) → marked marks.old s ≡ false) × (length marks.old ≤ length index.old) }
+    ensures { means.FoundSays (means.wanted which (program_in p.entry.rows.now p.entry.pairs.now p.entry.flags)) out.old result out.new }
 {
     let mut lows = [0u64; 32];
-    mark(rows, pairs, flags, top, &mut lows, &mut *marks);
-    let low = flags / 64;
-    let high = top / 64;
-    keep_wanted(rows, &lows, low, high, best, &mut *index, &mut *marks);
-    listed(&*marks, low, high, &mut *out)
+    mark(p, &mut lows, &mut *marks);
+    let rules = Rules {
+        rows: p.rows,
+        lows: &lows,
+    };
+    let span = p.span();
+    keep_wanted(rules, span, which, &mut *index, &mut *marks);
+    let left = Marks {
+        words: &*marks,
+        span,
+    };
+    listed(left, &mut *out)
 }
 
-// Marks the answer sets in words that have no mark, and answers the least best one; 65,536, which is no set, where there is none.
-fn pick_with(
-    rows: &[u64],
-    pairs: &[u16],
-    flags: u16,
-    top: u16,
-    index: &mut [u32],
-    marks: &mut [u64],
-) -> u32
-    requires { (length rows.now ≤ 32) × (top ≡ top_of (rules_in rows.now) flags) × (length marks.old ≡ top / 64 + 1) × ((s : ℕ) → marked marks.old s ≡ false) × (length marks.old ≤ length index.old) }
-    ensures { result ≡ means.number_of (bests.pick (program_in rows.now pairs.now flags)) }
+// Marks the answer sets in words that have no mark, and answers the least best one.
+fn pick_with(p: Program, index: &mut [u32], marks: &mut [u64]) -> Option<u16>
+    requires { (length marks.old ≡ p.top / 64 + 1) × ((s : ℕ) → marked marks.old s ≡ false) × (length marks.old ≤ length index.old) }
+    ensures { means.found result ≡ bests.pick (program_in p.entry.rows.now p.entry.pairs.now p.entry.flags) }
 {
     let mut lows = [0u64; 32];
-    mark(rows, pairs, flags, top, &mut lows, &mut *marks);
-    first_best_by(rows, &lows, flags / 64, top / 64, &mut *index, &mut *marks)
+    mark(p, &mut lows, &mut *marks);
+    let rules = Rules {
+        rows: p.rows,
+        lows: &lows,
+    };
+    first_best(rules, p.span(), &mut *index, &mut *marks)
 }
 
-// The sets of at most 32 rows that are wanted. A small page needs few words: no more than four for eight atoms.
-fn sets_to(rows: &[u64], pairs: &[u16], flags: u16, best: bool, out: &mut [u16]) -> u32
-    requires { length rows.now ≤ 32 }
-    ensures { means.FoundSays (means.wanted best (program_in rows.now pairs.now flags)) out.old result out.new }
+// The sets that are wanted, found in arrays of N words.
+fn sets_in<const N: usize>(p: Program, which: Which, out: &mut [u16]) -> u32
+    requires { (p.top / 64 < N) × (N ≤ 1024) }
+    ensures { means.FoundSays (means.wanted which (program_in p.entry.rows.now p.entry.pairs.now p.entry.flags)) out.old result out.new }
 {
-    let top = heads::top_of(rows, flags);
-    let words = (top / 64) as usize + 1;
-    if words <= 4 {
-        let mut index = [0u32; 4];
-        let mut few = [0u64; 4];
-        return sets_with(
-            rows,
-            pairs,
-            flags,
-            top,
-            best,
-            &mut index,
-            &mut few[..words],
-            &mut *out,
-        );
-    }
-    let mut index = [0u32; 1024];
-    let mut all = [0u64; 1024];
-    sets_with(
-        rows,
-        pairs,
-        flags,
-        top,
-        best,
-        &mut index,
-        &mut all[..words],
-        &mut *out,
-    )
+    let mut index = [0u32; N];
+    let mut marks = [0u64; N];
+    sets_with(p, which, &mut index, &mut marks[..p.words()], &mut *out)
 }
 
-// The pick of at most 32 rows.
-fn pick_to(rows: &[u64], pairs: &[u16], flags: u16) -> u32
-    requires { length rows.now ≤ 32 }
-    ensures { result ≡ means.number_of (bests.pick (program_in rows.now pairs.now flags)) }
+// The pick, found in arrays of N words.
+fn pick_in<const N: usize>(p: Program) -> Option<u16>
+    requires { (p.top / 64 < N) × (N ≤ 1024) }
+    ensures { means.found result ≡ bests.pick (program_in p.entry.rows.now p.entry.pairs.now p.entry.flags) }
 {
-    let top = heads::top_of(rows, flags);
-    let words = (top / 64) as usize + 1;
-    if words <= 4 {
-        let mut index = [0u32; 4];
-        let mut few = [0u64; 4];
-        return pick_with(rows, pairs, flags, top, &mut index, &mut few[..words]);
-    }
-    let mut index = [0u32; 1024];
-    let mut all = [0u64; 1024];
-    pick_with(rows, pairs, flags, top, &mut index, &mut all[..words])
+    let mut index = [0u32; N];
+    let mut marks = [0u64; N];
+    pick_with(p, &mut index, &mut marks[..p.words()])
 }
 
 // How many sets there are: all answer sets, or the best of them. Where the lent slice has room for all they stand at its start, rising; else it is
-// left as it was. Of more than 32 rows the first 32 count.
-pub fn sets(rows: &[u64], pairs: &[u16], flags: u16, best: bool, out: &mut [u16]) -> u32
-    ensures { means.FoundSays (means.wanted best (means.program_of rows.now pairs.now flags)) out.old result out.new }
+// left as it was. Of more than 32 rows the first 32 count. A small page needs few words: no more than four for eight atoms.
+pub fn sets(rows: &[u64], pairs: &[u16], flags: u16, which: Which, out: &mut [u16]) -> u32
+    ensures { means.FoundSays (means.wanted which (means.program_of rows.now pairs.now flags)) out.old result out.new }
 {
-    if 32 < rows.len() {
-        return sets_to(&rows[..32], pairs, flags, best, &mut *out);
+    let p = Program::new(rows, pairs, flags);
+    if p.words() <= 4 {
+        return sets_in::<4>(p, which, &mut *out);
     }
-    sets_to(rows, pairs, flags, best, &mut *out)
+    sets_in::<1024>(p, which, &mut *out)
 }
 
-// The lowest-numbered best set; 65,536, which is no set, where there is no answer set. Of more than 32 rows the first 32 count.
-pub fn pick(rows: &[u64], pairs: &[u16], flags: u16) -> u32
-    ensures { result ≡ means.number_of (bests.pick (means.program_of rows.now pairs.now flags)) }
+// The lowest-numbered best set, if there is an answer set. Of more than 32 rows the first 32 count.
+pub fn pick(rows: &[u64], pairs: &[u16], flags: u16) -> Option<u16>
+    ensures { means.found result ≡ bests.pick (means.program_of rows.now pairs.now flags) }
 {
-    if 32 < rows.len() {
-        return pick_to(&rows[..32], pairs, flags);
+    let p = Program::new(rows, pairs, flags);
+    if p.words() <= 4 {
+        return pick_in::<4>(p);
     }
-    pick_to(rows, pairs, flags)
+    pick_in::<1024>(p)
 }

@@ -34,7 +34,7 @@ pub fn raise(raised: u16, w: &mut [u64; 16])
     let mut rest = raised;
     while rest != 0 {
         let a = atoms::lowest(rest);
-        w[a as usize] = 0xFFFF_FFFF_FFFF_FFFF;
+        w[a as usize] = u64::MAX;
         rest = rest & (rest - 1);
     }
 }
@@ -93,7 +93,7 @@ pub fn none_in(none: u16, w: &[u64; 16], x: u64) -> u64
     requires { length w.now ≡ 16 }
     ensures { (j : ℕ) → j < 64 → has result j ≡ (has x j && none_in (atoms_in none) (means.column w.now j)) }
 {
-    in_each(none, w, 0xFFFF_FFFF_FFFF_FFFF, x)
+    in_each(none, w, u64::MAX, x)
 }
 
 // The lanes in which the low part of each row's body holds, at the start of the lent slice. The words of block 0 are given.
@@ -101,12 +101,9 @@ pub fn low_bodies(rows: &[u64], zero: &[u64; 16], lows: &mut [u64])
     requires { means.Block 0 zero.now × (length rows.now ≤ length lows.old) }
     ensures { means.LowBodies rows.now lows.new × (length lows.new ≡ length lows.old) }
 {
-    let mut n = 0;
-    while n < rows.len() {
-        let row = rows[n];
-        let x = all_in((row % 64) as u16, zero, 0xFFFF_FFFF_FFFF_FFFF);
+    for (n, &row) in rows.iter().enumerate() {
+        let x = all_in((row % 64) as u16, zero, u64::MAX);
         lows[n] = none_in((row / 65536 % 64) as u16, zero, x);
-        n += 1;
     }
 }
 

@@ -7,21 +7,19 @@ use Rattle.lanes.specs.Lanes.{column}
 use Rattle.lanes.proofs.Answering.{pair_turn, pair_end}
 use Rattle.lanes.proofs.answer.no_pair.Goals as goal
 
-pub loop-n-init : goal.loop-n-init
+pub loop-pair-init : goal.loop-pair-init
 unfolding pairs_in
-loop-n-init c = (omega arith, λ j l. refl)
+loop-pair-init c = λ j l. refl
 
-pub loop-n-preserved : goal.loop-n-preserved
-loop-n-preserved c =
-    let h = c.loop-n in
-    let a = c.args in (
-      omega arith,
-      λ j l. h.invariant.1 j l ∙ pair_turn (rest_step pair_in a.pairs.now h.n (omega arith) _ refl) (column a.w.now j) h.ok c.pair_held.result j l
-          (omega (arith, c.pair_held.type_inv)) (c.pair_held.ensures j l),
-    )
+pub loop-pair-preserved : goal.loop-pair-preserved
+loop-pair-preserved c =
+    let h = c.loop-pair in
+    let a = c.args in
+    λ j l.
+    h.invariant j l ∙ pair_turn (rest_step pair_in a.pairs.now h.pair-index (omega arith) _ refl) (column a.w.now j) h.ok c.pair_held.result j l
+    (omega (arith, c.pair_held.type_inv)) (c.pair_held.ensures j l)
 
 pub returns : goal.returns
 returns c =
-    let h = c.loop-n in
-    let a = c.args in
-    λ j l. sym (h.invariant.1 j l ∙ pair_end (rest_none pair_in a.pairs.now h.n (omega arith)) _ _)
+    let h = c.loop-pair in
+    λ j l. sym (h.invariant j l ∙ pair_end (rest_none pair_in c.args.pairs.now h.pair-index (omega arith)) _ _)

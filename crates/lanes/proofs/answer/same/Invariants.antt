@@ -1,5 +1,5 @@
 -- `answer::same` goes through both word by word. Assumes nothing.
-use Prim.Native.Nat.{ℕ, ◌-◌, ◌≤◌, ◌<◌}
+use Prim.Native.Nat.{ℕ, ◌<◌}
 use mathlib.Core.Path.{◌≡◌}
 use mathlib.Core.Bool.{◌&&◌}
 use Rattle.atoms.specs.Atoms.{has}
@@ -7,7 +7,4 @@ use Rattle.lanes.proofs.Columns.{same_from}
 use Rattle.lanes.proofs.answer.same.Given as goal
 
 abbrev pub invariant-loop-k : goal.invariant-loop-k
-invariant-loop-k l = (l.k ≤ 16) × ((j : ℕ) → j < 64 → same_from 0 l.v l.w j ≡ (has l.acc j && same_from l.k l.v l.w j))
-
-abbrev pub decreases-loop-k : goal.decreases-loop-k
-decreases-loop-k l = 16 - l.k
+invariant-loop-k l = (j : ℕ) → j < 64 → same_from 0 l.v l.w j ≡ (has l.acc j && same_from l.k l.v l.w j)

@@ -13,30 +13,30 @@ use Rattle.lanes.proofs.close.pass.Goals as goal
 pub loop-n-init : goal.loop-n-init
 unfolding rules_in
 loop-n-init c =
-    (omega arith, c.requires.4, λ j l. rw (has_full j l), λ j l. rw (has_zero j), λ j l. refl, λ j l. rw (has_zero j))
-
-pub row_pass-r-requires : goal.row_pass-r-requires
-row_pass-r-requires c =
-    let h = c.loop-n in
-    (c.requires.0, c.requires.1, c.requires.2 h.n (omega arith), h.invariant.1)
+    record {
+      long = c.requires.2;
+      ok = λ j l. rw (has_full j l);
+      waits = λ j l. rw (has_zero j);
+      reached = λ j l. refl;
+      grows = λ j l. rw (has_zero j);
+    }
 
 pub loop-n-preserved : goal.loop-n-preserved
 loop-n-preserved c =
     let r = c.row_pass-r in
     let h = c.loop-n in
-    let a = c.args in
-    let e = rest_step rule_in a.rows.now h.n (omega arith) _ refl in (
-      omega arith,
-      r.ensures.0,
-      λ j l. h.invariant.2 j l ∙ ok_turn e (64 * a.b + j) j h.ok _ (r.ensures.1 j l),
-      λ j l. h.invariant.3 j l ∙ wait_turn e (64 * a.b + j) j (column h.cur j) _ (r.ensures.3 j l) h.wait _ (r.ensures.2 j l),
-      λ j l. h.invariant.4 j l ∙ pass_turn e (64 * a.b + j) j (column h.cur j) _ (r.ensures.3 j l),
-      λ j l. h.invariant.5 j l ∙ grow_turn e (64 * a.b + j) j (column h.cur j) _ (r.ensures.3 j l) h.grew _ (r.ensures.4 j l),
-    )
+    let k = h.invariant in
+    let e = rest_step rule_in c.args.rules.rows.now h.n (omega arith) _ refl in
+    record {
+      long = r.ensures.0;
+      ok = λ j l. k.ok j l ∙ ok_turn e (64 * c.args.b + j) j h.ok _ (r.ensures.1 j l);
+      waits = λ j l. k.waits j l ∙ wait_turn e (64 * c.args.b + j) j (column h.cur j) _ (r.ensures.3 j l) h.wait _ (r.ensures.2 j l);
+      reached = λ j l. k.reached j l ∙ pass_turn e (64 * c.args.b + j) j (column h.cur j) _ (r.ensures.3 j l);
+      grows = λ j l. k.grows j l ∙ grow_turn e (64 * c.args.b + j) j (column h.cur j) _ (r.ensures.3 j l) h.grew _ (r.ensures.4 j l);
+    }
 
 pub returns : goal.returns
 returns c =
-    let h = c.loop-n in
-    let a = c.args in
-    let e = rest_none rule_in a.rows.now h.n (omega arith) in
-    (h.invariant.1, λ j l. sym (h.invariant.2 j l ∙ ok_end e _ _), λ j l. sym (h.invariant.3 j l ∙ wait_end e _ _ _), λ j l. sym (h.invariant.4 j l ∙ pass_end e _ _), λ j l. sym (h.invariant.5 j l ∙ grow_end e _ _ _))
+    let k = c.loop-n.invariant in
+    let e = rest_none rule_in c.args.rules.rows.now c.loop-n.n (omega arith) in
+    (k.long, λ j l. sym (k.ok j l ∙ ok_end e _ _), λ j l. sym (k.waits j l ∙ wait_end e _ _ _), λ j l. sym (k.reached j l ∙ pass_end e _ _), λ j l. sym (k.grows j l ∙ grow_end e _ _ _))

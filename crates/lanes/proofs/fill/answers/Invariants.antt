@@ -12,8 +12,13 @@ use Rattle.lanes.proofs.fill.answers.Given as goal
 
 abbrev pub invariant-loop-b : goal.invariant-loop-b
 invariant-loop-b l =
-    (length l.marks ≡ l.top / 64 + 1) × (l.top < 65536) × (l.b ≤ 1024) × (l.b < 1024 → T (inside (l.flags / 64) l.b) × T (inside l.b (l.top / 64)))
-    × FilledTo (answer (program_in l.rows l.pairs l.flags)) l.flags l.top l.b l.marks
+    record {
+      long : length l.marks ≡ l.top / 64 + 1;
+      small : l.top < 65536;
+      most : l.b ≤ 1024;
+      between : l.b < 1024 → T (inside (l.flags / 64) l.b) × T (inside l.b (l.top / 64));
+      filled : FilledTo (answer (program_in l.rules.rows.now l.pairs l.flags)) l.flags l.top l.b l.marks;
+    }
 
 abbrev pub decreases-loop-b : goal.decreases-loop-b
 decreases-loop-b l = 1024 - l.b

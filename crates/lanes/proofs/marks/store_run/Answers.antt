@@ -1,29 +1,29 @@
--- `marks::store_run` counts up. What is kept: the numbers from s on, stored from `at` on, leave what all of them do. Assumes nothing.
-use mathlib.Core.Path.{◌≡◌, refl, sym, ap, ◌∙◌}
-use Prim.Native.Nat.{ℕ, ◌+◌, ◌-◌}
+-- `marks::store_run` counts up. What is kept: the numbers that are left, stored from their place on, leave what all of them do. Assumes nothing.
+use mathlib.Core.Path.{◌≡◌, refl, sym, ◌∙◌}
+use Prim.Native.Nat.{◌+◌, ◌-◌}
 use native.Mathlib.Omega.{arith}
 use lib.ListN.{length-set}
-use lib.Seq.{sets}
-use Rattle.lpod.specs.Lists.{numbers}
 use Rattle.lanes.proofs.Stored.{run_more, run_done}
 use Rattle.lanes.proofs.marks.store_run.Goals as goal
 
-pub loop-s-init : goal.loop-s-init
-loop-s-init c =
+pub loop-n-init : goal.loop-n-init
+loop-n-init c =
     let a = c.args in
-    let e : a.many ≡ a.i + a.many - a.i = omega arith in
-    (omega arith, omega arith, omega arith, refl, ap (λ (n : ℕ). sets a.out.now a.k (numbers a.i n)) e)
+    let e : a.i + a.many - (a.i + 0) ≡ a.many = omega arith in
+    let f : a.k + 0 ≡ a.k = omega arith in
+    let g : a.i + 0 ≡ a.i = omega arith in
+    (refl, rw (e, f, g) refl)
 
-pub loop-s-preserved : goal.loop-s-preserved
-loop-s-preserved c =
-    let h = c.loop-s in
-    let l = length-set h.out h.at h.s in
-    (omega arith, omega arith, omega (arith, l), l ∙ h.invariant.3, h.invariant.4 ∙ run_more h.out h.at h.s _ (omega arith))
-
-pub shape_of-out : goal.shape_of-out
-shape_of-out c = c.loop-s.invariant.3
+pub loop-n-preserved : goal.loop-n-preserved
+loop-n-preserved c =
+    let h = c.loop-n in
+    let a = c.args in
+    let f : a.k + (h.n + 1) ≡ a.k + h.n + 1 = omega arith in
+    let g : a.i + (h.n + 1) ≡ a.i + h.n + 1 = omega arith in
+    (length-set h.out (a.k + h.n) (a.i + h.n) ∙ h.invariant.0, h.invariant.1 ∙ rw (f, g) (run_more h.out (a.k + h.n) (a.i + h.n) _ (omega arith)))
 
 pub returns : goal.returns
 returns c =
-    let h = c.loop-s in
-    sym (h.invariant.4 ∙ run_done h.out h.at h.s _ c.loop-s-test.false)
+    let h = c.loop-n in
+    let a = c.args in
+    sym (h.invariant.1 ∙ run_done h.out (a.k + h.n) (a.i + h.n) _ (omega arith))

@@ -5,34 +5,22 @@ use Rattle.lanes.proofs.rank.at_degree.Goals as goal
 use Rattle.lanes.proofs.rank.at_degree.Goals.{then-grades-n, else-grades-n}
 
 pub loop-n-init : goal.loop-n-init
-loop-n-init c = let a = c.args in (omega arith, level_start a.rows.now a.grades.now a.b a.k)
-
-pub bounds-lows-n : goal.bounds-lows-n
-bounds-lows-n c = omega (arith, c.requires)
-
-pub exact-e-requires : goal.exact-e-requires
-exact-e-requires c =
-    (c.requires.0, c.requires.2 c.loop-n.n (omega arith), c.requires.1, c.requires.5)
-
-pub bounds-grades-n : goal.bounds-grades-n
-bounds-grades-n c = omega (arith, c.requires)
+loop-n-init c = let a = c.args in level_start a.rules.rows.now a.grades.now a.b a.k
 
 pub loop-n-preserved : goal.loop-n-preserved
 loop-n-preserved c =
     let x = c.exact-e in
     let h = c.loop-n in
     let a = c.args in
-    let r = a.rows.now in
-    let g = a.grades.now in (
-      omega arith,
-      elim c.if-grades-n.branch [
-        | then-grades-n w ↦ rw (w.up-is, w.down-is) (level_here r g a.b a.k h.n h.up h.down x.result (omega arith) x.ensures h.invariant.1 w.if-grades-n.true)
-        | else-grades-n w ↦ rw (w.up-is, w.down-is) (level_there r g a.b a.k h.n h.up h.down x.result (omega arith) x.ensures h.invariant.1 w.if-grades-n.false (omega (arith, x.type_inv)))
-      ],
-    )
+    let r = a.rules.rows.now in
+    let g = a.grades.now in
+    elim c.if-grades-n.branch [
+      | then-grades-n w ↦ rw (w.up-is, w.down-is) (level_here r g a.b a.k h.n h.up h.down x.result (omega arith) x.ensures h.invariant w.if-grades-n.true)
+      | else-grades-n w ↦ rw (w.up-is, w.down-is) (level_there r g a.b a.k h.n h.up h.down x.result (omega arith) x.ensures h.invariant w.if-grades-n.false (omega (arith, x.type_inv)))
+    ]
 
 pub returns : goal.returns
 returns c =
     let h = c.loop-n in
     let a = c.args in
-    level_end a.rows.now a.grades.now a.b a.k h.n h.up h.down c.loop-n-test.false h.invariant.1
+    level_end a.rules.rows.now a.grades.now a.b a.k h.n h.up h.down c.loop-n-test.false h.invariant

@@ -2,16 +2,13 @@
 -- degree where the lane is left and the first of the head atoms that are left is at that place. Assumes nothing.
 use mathlib.Core.Path.{sym, ap, ◌∙◌}
 use mathlib.Core.Bool.{Bool, ◌&&◌}
-use Prim.Native.Nat.{◌+◌, ◌-◌}
+use Prim.Native.Nat.{◌+◌, ◌-◌, ◌≤◌}
 use native.Mathlib.Omega.{arith}
 use Rattle.atoms.specs.Atoms.{has}
 use Rattle.atoms.proofs.Bits.{has_and}
 use Rattle.words.specs.Coded.{head_digits}
 use Rattle.lanes.proofs.Levels.{place_pass, place_meet, one_bare, one_head, later_start, later_past}
 use Rattle.lanes.proofs.rank.exact.Goals as goal
-
-pub body-x-requires : goal.body-x-requires
-body-x-requires c = (c.requires.0, c.requires.1)
 
 pub returns-then-n-eq0 : goal.returns-then-n-eq0
 unfolding head_digits
@@ -43,25 +40,23 @@ loop-p-init c =
     let x = c.body-x in
     let n = c.head_count-n in
     let a = c.args in
-    (omega arith, c.requires.3, λ j l. later_start a.word a.b x.result n.result x.ensures n.ensures j l a.k c.requires.3 c.if-k-eq1.false)
+    λ j l. later_start a.word a.b x.result n.result x.ensures n.ensures j l a.k c.requires.3 c.if-k-eq1.false
 
 pub loop-p-preserved : goal.loop-p-preserved
 loop-p-preserved c =
     let h = c.loop-p in
     let n = c.head_count-n.result in
-    let a = c.args in (
-      omega arith,
-      omega arith,
-      λ j l. h.invariant.2 j l ∙ place_pass a.b a.w.now c.requires.2 h.p a.k (n + 1 - h.p) (n + 1 - (h.p + 1)) h.d c.at-in-loop-p.result
-          (omega (arith, c.if-n-k.false, c.loop-p-test.true)) c.at-in-loop-p.ensures j l (omega (arith, c.at-in-loop-p.type_inv)) c.loop-p-test.true h.t,
-    )
+    let a = c.args in
+    λ j l. h.invariant j l ∙ place_pass a.b a.w.now c.requires.2 h._p a.k (n + 1 - h._p) (n + 1 - (h._p + 1)) h.d c.at-in-loop-p.result
+    (omega (arith, c.if-n-k.false, c.loop-p-test.true)) c.at-in-loop-p.ensures j l (omega (arith, c.at-in-loop-p.type_inv)) c.loop-p-test.true h.t
 
 pub returns : goal.returns
 returns c =
     let h = c.loop-p in
     let n = c.head_count-n.result in
     let a = c.args in
+    let at_last : h._p ≤ a.k = omega (arith, c.requires.3) in
     λ j l. has_and h.t c.at-2.result j
-    ∙ ap (λ (q : Bool). has h.t j && q) (sym (place_meet a.b a.w.now c.requires.2 h.p a.k (n + 1 - h.p) (n - h.p) h.d c.at-2.result
-    (omega (arith, c.if-n-k.false, h.invariant.1)) c.at-2.ensures j l c.requires.3 (omega (arith, c.loop-p-test.false, h.invariant.1))))
-    ∙ sym (h.invariant.2 j l)
+    ∙ ap (λ (q : Bool). has h.t j && q) (sym (place_meet a.b a.w.now c.requires.2 h._p a.k (n + 1 - h._p) (n - h._p) h.d c.at-2.result
+    (omega (arith, c.if-n-k.false, at_last)) c.at-2.ensures j l c.requires.3 (omega (arith, c.loop-p-test.false, at_last))))
+    ∙ sym (h.invariant j l)

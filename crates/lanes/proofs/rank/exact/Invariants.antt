@@ -2,7 +2,7 @@
 -- degree where the lane is left and the first of the head atoms that are left is at that place. Assumes nothing.
 use mathlib.Core.Path.{◌≡◌}
 use mathlib.Core.Bool.{◌&&◌}
-use Prim.Native.Nat.{ℕ, ◌+◌, ◌*◌, ◌-◌, ◌≤◌, ◌<◌}
+use Prim.Native.Nat.{ℕ, ◌+◌, ◌*◌, ◌-◌, ◌<◌}
 use lib.Dec.{eqb}
 use Rattle.atoms.specs.Atoms.{has}
 use Rattle.lpod.specs.Degree.{place, degree}
@@ -11,8 +11,4 @@ use Rattle.lanes.proofs.rank.exact.Given as goal
 
 abbrev pub invariant-loop-p : goal.invariant-loop-p
 invariant-loop-p l =
-    (1 ≤ l.p) × (l.p ≤ l.k)
-    × ((j : ℕ) → j < 64 → eqb (degree (64 * l.b + j) (rule_in l.word)) l.k ≡ (has l.t j && eqb (place l.p (digits (l.n + 1 - l.p) l.d) (64 * l.b + j)) l.k))
-
-abbrev pub decreases-loop-p : goal.decreases-loop-p
-decreases-loop-p l = l.k - l.p
+    (j : ℕ) → j < 64 → eqb (degree (64 * l.b + j) (rule_in l.word)) l.k ≡ (has l.t j && eqb (place l._p (digits (l.n + 1 - l._p) l.d) (64 * l.b + j)) l.k)

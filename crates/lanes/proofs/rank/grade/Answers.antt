@@ -11,26 +11,19 @@ use Rattle.lanes.proofs.rank.grade.Goals as goal
 
 pub loop-n-init : goal.loop-n-init
 unfolding rules_in
-loop-n-init c = (omega arith, refl, refl)
-
-pub bounds-grades-n : goal.bounds-grades-n
-bounds-grades-n c = omega (arith, c.requires, c.loop-n.invariant.1)
+loop-n-init c = (refl, refl)
 
 pub loop-n-preserved : goal.loop-n-preserved
 loop-n-preserved c =
     let h = c.loop-n in
     let a = c.args in (
-      omega arith,
-      length-set h.grades h.n _ ∙ h.invariant.1,
-      filled_more h.grades _ _ _ h.n c.degree.result (omega (arith, c.requires, h.invariant.1)) h.invariant.2
+      length-set h.grades h.n _ ∙ h.invariant.0,
+      filled_more h.grades _ _ _ h.n c.degree.result (omega (arith, c.requires, h.invariant.0)) h.invariant.1
           (ap (map (degree a.set)) (rest_step rule_in a.rows.now h.n (omega arith) _ refl) ∙ rw (← c.degree.ensures) refl),
     )
-
-pub shape_of-grades : goal.shape_of-grades
-shape_of-grades c = c.loop-n.invariant.1
 
 pub returns : goal.returns
 returns c =
     let h = c.loop-n in
     let a = c.args in
-    (filled_all h.grades _ _ h.n (length a.rows.now) h.invariant.2 (ap (map (degree a.set)) (rest_none rule_in a.rows.now h.n (omega arith))) (omega arith), h.invariant.1)
+    (filled_all h.grades _ _ h.n (length a.rows.now) h.invariant.1 (ap (map (degree a.set)) (rest_none rule_in a.rows.now h.n (omega arith))) (omega arith), h.invariant.0)
