@@ -1,10 +1,10 @@
 pub mod Rounds
 pub mod FourTests
+pub mod HeadFirst
 pub mod HeadsHold
 pub mod Verdicts
 pub mod CountedRounds
 pub mod SplitOption
-pub mod SplitRows
 pub mod SplitRound
 pub mod SplitNumber
 pub mod SplitSums

@@ -1,70 +1,63 @@
--- What the split test answers, in the steps of the code: the number of the other refusals, and where that is 0 the 12 of too many split programs. Where
--- that is 0 too, the page is accepted, so that its words mean its program, and they give the count. Assumes nothing.
+-- What the split test answers, in the steps of the code: refused for the other refusals, or for the 12 of too many split programs, or the count.
+-- Assumes nothing.
+use Rattle.std.specs.Prelude.{Result, Ok, Err, IsErrAnd}
 use mathlib.Core.Path.{◌≡◌, refl, sym, ap, ◌∙◌}
 use mathlib.Core.Bool.{Bool, true, false, cond}
 use mathlib.Core.List.{List, [], ◌∷◌}
-use Prim.Native.Nat.{ℕ, ◌≤◌}
+use Prim.Native.Nat.{ℕ, zero, suc, ◌≤◌}
 use native.Mathlib.Omega.{arith}
 use lib.Dec.{ltb, eqb}
-use lib.ListN.{take}
-use borrow.Author.Tests.{ltb-false, eq-eqb, ne_eqb}
+use borrow.Author.Tests.{ltb-false, ne_eqb}
 use Rattle.lpod.specs.Rule.{Rule}
 use Rattle.lpod.specs.Split.{split_number, split_count}
 use Rattle.page.specs.Program.{program}
-use Rattle.page.specs.Refusals.{refuse, first_that, test_refusals, test_no, page_no}
-use Rattle.page.proofs.Refusals.{first_append, given_append, test_numbered}
-use Rattle.words.specs.Coded.{rules_in, program_in, row_total, pair_total, row_words, pair_words}
-use Rattle.words.proofs.Lent.{test_page, lent_rows, lent_split}
-use Rattle.routes.specs.Split.{too_many, split_refusals, split_no, counted, uncounted, split_test}
+use Rattle.page.specs.Refusals as lists
+use Rattle.page.specs.Answers.{number, answered, by_number}
+use Rattle.page.specs.declared.refusal.Refusal.{Refusal}
+use Rattle.page.specs.declared.refusal.Refusal.TheVariants.{TooManySplits}
+use Rattle.page.proofs.Refusals.{given_append, test_numbered}
+use Rattle.page.proofs.Refusing.{first_stands, then_rest, refused_here, refused_before, given}
+use Rattle.words.specs.Coded.{rules_in, row_words}
+use Rattle.words.proofs.Lent.{test_page, lent_rows}
+use Rattle.routes.specs.Split.{with_yes, too_many, split_refusals, split_no, counted, uncounted, split_test, SplitSays}
 use Rattle.routes.proofs.SplitNumber.{too_many_rows}
 
--- ---- the answer, by the number
-module _ (page : List ℕ) (flags set found : ℕ) (e : found ≡ split_no page flags set) where
-  test_refused : (found ≡ 0 → ⊥) → uncounted found ≡ split_test page flags set
+told : (n c : ℕ) → with_yes (by_number 0 n c) ≡ cond (eqb n 0) (counted c) (uncounted n)
+unfolding by_number counted uncounted
+told zero c = refl
+told (suc n) c = rw (ne_eqb (suc n) 0 (λ q. omega arith))
+
+module _ (page : List ℕ) (flags set : ℕ) where
+  -- where the number is 0, so is that of the other refusals
+  pub split_test_zero : split_no page flags set ≡ 0 → lists.test_no page flags set ≡ 0
+  unfolding split_no split_refusals lists.test_no
+  split_test_zero e = (given_append (lists.test_refusals page flags set) (lists.refuse 12 (too_many page flags) ∷ []) (test_numbered page flags set) e).0
+
+  says : (r : Result ℕ Refusal) → answered 0 r ≡ by_number 0 (split_no page flags set) (split_count (program page flags) set) → SplitSays page flags set r
   unfolding split_test
-  test_refused z = rw (← e, ne_eqb found 0 z)
+  says r e = ap with_yes e ∙ told (split_no page flags set) (split_count (program page flags) set)
 
-  test_counted : found ≡ 0 → (n : ℕ) → n ≡ split_count (program page flags) set → counted n ≡ split_test page flags set
-  unfolding split_test
-  test_counted z n en = rw (← e, eq-eqb found 0 z, en)
+  -- ---- the code's steps
+  pub refused_test : (r : Result ℕ Refusal) (e : Refusal) → IsErrAnd r (λ y. y ≡ e) → number e ≡ lists.test_no page flags set → SplitSays page flags set r
+  unfolding split_no split_refusals lists.test_no
+  refused_test r e p q =
+      says r (refused_before 0 _ _ r e p (first_stands (lists.test_refusals page flags set) (lists.refuse 12 (too_many page flags) ∷ []) (test_numbered page flags set) e q))
 
--- where it is 0, so is that of the other refusals
-pub split_test_zero : (page : List ℕ) (flags set : ℕ) → split_no page flags set ≡ 0 → test_no page flags set ≡ 0
-unfolding split_no split_refusals test_no
-split_test_zero page flags set e = (given_append (test_refusals page flags set) (refuse 12 (too_many page flags) ∷ []) (test_numbered page flags set) e).0
+  module _ (z : 0 ≡ lists.test_no page flags set) (b : Bool) (eb : b ≡ too_many page flags) where
+    the_number : cond b 12 0 ≡ split_no page flags set
+    unfolding split_no split_refusals lists.test_no lists.first_that
+    the_number = then_rest (lists.test_refusals page flags set) (lists.refuse 12 (too_many page flags) ∷ []) (test_numbered page flags set) (cond b 12 0) z (rw eb)
 
--- ---- the code's steps: the number of the other refusals
-module _ (page : List ℕ) (flags set found : ℕ) (e : found ≡ test_no page flags set) where
-  number : split_no page flags set ≡ cond (eqb found 0) (first_that (refuse 12 (too_many page flags) ∷ [])) found
-  unfolding split_no split_refusals test_no
-  number = first_append (test_refusals page flags set) (refuse 12 (too_many page flags) ∷ []) (test_numbered page flags set) ∙ rw e
+    pub refused_many : b ≡ true → SplitSays page flags set (Err TooManySplits)
+    refused_many t = says (Err TooManySplits) (refused_here 0 _ _ TooManySplits (ap (λ b. cond b 12 0) (sym t) ∙ the_number))
 
-  pub refused_found : (found ≡ 0 → ⊥) → uncounted found ≡ split_test page flags set
-  refused_found z = test_refused page flags set found (sym (number ∙ rw (ne_eqb found 0 z))) z
+    pub counted_splits : b ≡ false → (n : ℕ) → n ≡ split_count (program page flags) set → SplitSays page flags set (Ok n)
+    counted_splits t n e = says (Ok n) (given 0 _ _ (ap (λ b. cond b 12 0) (sym t) ∙ the_number) n e)
 
-  -- then the rows' words, which are the first n that were made, and whether they have too many split programs
-  module _ (z : found ≡ 0) (n : ℕ) (made : List ℕ) (en : n ≡ row_total page) (em : take (row_total page) made ≡ row_words page)
-      (b : Bool) (eb : b ≡ ltb 4096 (split_number (rules_in (take n made)))) where
-    accepted : page_no page ≡ 0
-    accepted = test_page page flags set found e z
+  -- the words of the page say whether there are too many
+  module _ (z : 0 ≡ lists.test_no page flags set) (rows : List ℕ) (er : rows ≡ row_words page) (b : Bool) (eb : b ≡ ltb 4096 (split_number (rules_in rows))) where
+    pub many_words : b ≡ too_many page flags
+    many_words = eb ∙ ap (λ (P : List Rule). ltb 4096 (split_number P)) (lent_rows page (test_page page flags set z) rows er) ∙ sym (too_many_rows page flags)
 
-    many : b ≡ too_many page flags
-    many = eb ∙ ap (λ (P : List Rule). ltb 4096 (split_number P)) (lent_rows page accepted n made en em) ∙ sym (too_many_rows page flags)
-
-    number_many : cond b 12 0 ≡ split_no page flags set
-    unfolding first_that
-    number_many = sym (number ∙ rw (eq-eqb found 0 z, ← many))
-
-    pub refused_many : b ≡ true → uncounted 12 ≡ split_test page flags set
-    refused_many t = test_refused page flags set 12 (ap (λ b. cond b 12 0) (sym t) ∙ number_many) (λ q. omega arith)
-
-    module _ (t : b ≡ false) where
-      pub rows_few : split_number (rules_in (take n made)) ≤ 4096
-      rows_few = ltb-false 4096 (split_number (rules_in (take n made))) (sym eb ∙ t)
-
-      -- then the pairs' words in the same way, and the count
-      pub counted_words : (q : ℕ) (pairs : List ℕ) → q ≡ pair_total page → take (pair_total page) pairs ≡ pair_words page
-          → (count : ℕ) → count ≡ split_count (program_in (take n made) (take q pairs) flags) set → counted count ≡ split_test page flags set
-      counted_words q pairs eq ep count ec =
-          test_counted page flags set 0 (ap (λ b. cond b 12 0) (sym t) ∙ number_many) refl count
-          (ec ∙ ap (λ (f : ℕ → ℕ). f set) (lent_split page accepted n made en em q pairs eq ep flags))
+    pub rows_few : b ≡ false → split_number (rules_in rows) ≤ 4096
+    rows_few t = ltb-false 4096 (split_number (rules_in rows)) (sym eb ∙ t)

@@ -1,14 +1,15 @@
--- How many choices of options pass a test, counted row by row. Over the rows and one more it is the sum, over that row's options, of the counts with the
--- option behind; over the rows of flags too it is the count with the flags' options behind. By induction on the rows, the sums being exchanged.
--- So the count for the first n rows is a sum of counts for those before the last. Assumes nothing.
+-- How many choices of options pass a test, counted row by row. It is the sum, over the first row's options, of the counts for the rows after it with
+-- the option in front; over the rows of flags too it is the count with the flags' options behind. By induction on the rows. Assumes nothing.
 use mathlib.Core.Path.{◌≡◌, refl, sym, ap, ◌∙◌}
 use mathlib.Core.Bool.{Bool, true, false, ◌&&◌, cond}
 use mathlib.Core.List.{List, [], ◌∷◌, ◌++◌, map, append_assoc}
-use Prim.Native.Nat.{ℕ, suc, ◌+◌, ◌≤◌, ◌<◌, max}
+use Prim.Native.Nat.{ℕ, suc, ◌+◌, ◌-◌, ◌≤◌, ◌<◌, max}
 use native.Mathlib.Nat.{add-zero}
 use native.Mathlib.Omega.{arith}
-use lib.ListN.{length, length-append, set, take}
-use lib.Seq.{take_all}
+use lib.ListN.{length, length-append, take}
+use lib.Seq.{take-append_seam}
+use Rattle.std.proofs.lemmas.List.{map-append}
+use Rattle.std.specs.Int.{from_bool}
 use Rattle.atoms.specs.Atoms.{has}
 use Rattle.lpod.specs.Lists.{keep, gather, below}
 use Rattle.lpod.specs.Rule.{Rule, fact, raised, rules}
@@ -16,11 +17,11 @@ use Rattle.lpod.specs.Satisfied.{no_pair}
 use Rattle.lpod.specs.Split.{Option, gives, options_from, options_of, options, choices, split_number, split_answer, split_count}
 use Rattle.lpod.proofs.Lists.{keep_append, keep_length}
 use Rattle.lpod.proofs.ReductIsSplit.{split_number_lem}
-use Rattle.words.specs.Coded.{rules_in, pairs_in, program_in}
-use Rattle.routes.specs.Choice.{option_at, flag_options, program_from, count_from}
-use Rattle.routes.proofs.SplitSums.{sum_over, sum_below, sum_same, sum_swap, below_same, below_more, below_part, options_sum}
-use Rattle.routes.proofs.SplitNumber.{row_options}
-use Rattle.routes.proofs.SplitRows.{row_at, rows_many, rows_last, store_option, program_end}
+use Rattle.words.specs.Coded.{rule_in, rules_in, pairs_in, program_in}
+use Rattle.routes.specs.Choice.{option_at, chosen, all_chosen, flag_options, count_from}
+use Rattle.routes.specs.declared.split.Chosen.{Chosen}
+use Rattle.routes.proofs.SplitSums.{sum_over, sum_below, sum_same, below_same, below_more, below_part, options_sum}
+use Rattle.routes.proofs.SplitNumber.{row_options, number_down}
 
 -- ---- how many choices pass
 abbrev count : (List Option → Bool) → List Rule → ℕ
@@ -55,16 +56,6 @@ count_row p r P =
     keep_gather p (λ o. map (λ C. o ∷ C) (choices P)) (options r)
     ∙ sum_same (options r) (λ o. length (keep p (map (λ C. o ∷ C) (choices P)))) (λ o. count (λ C. p (o ∷ C)) P) (λ o. keep_map p (λ C. o ∷ C) (choices P))
 
--- one row more, behind the others
-count_last : (p : List Option → Bool) (P : List Rule) (r : Rule) → count p (P ++ r ∷ []) ≡ sum_over (options r) (λ o. count (λ C. p (C ++ o ∷ [])) P)
-unfolding choices keep
-count_last p [] r = count_row p r []
-count_last p (a ∷ P) r =
-    count_row p a (P ++ r ∷ [])
-    ∙ sum_same (options a) _ (λ o. sum_over (options r) (λ q. count (λ C. p (o ∷ (C ++ q ∷ []))) P)) (λ o. count_last (λ C. p (o ∷ C)) P r)
-    ∙ sum_swap (options a) (options r) (λ o q. count (λ C. p (o ∷ (C ++ q ∷ []))) P)
-    ∙ sum_same (options r) _ (λ q. count (λ C. p (C ++ q ∷ [])) (a ∷ P)) (λ q. sym (count_row (λ C. p (C ++ q ∷ [])) a P))
-
 -- the rows of flags: each has its one option
 facts_alone : (p : List Option → Bool) (l : List ℕ) → count p (map fact l) ≡ count (λ C. p (C ++ map (λ a. gives a [] []) l)) []
 unfolding choices keep fact options options_of options_from sum_over
@@ -88,63 +79,49 @@ count_most : (p : List Option → Bool) (P : List Rule) → count p P ≤ split_
 count_most p P = rw (← split_number_lem P) (keep_length p (choices P))
 
 -- ---- the counts that the test makes
-module _ (rows : List ℕ) (flags s : ℕ) where
+module _ (flags s : ℕ) where
   -- no row is left: the choice itself is tested
-  pub count_zero : (n : ℕ) (choice : List ℕ) (b : Bool) → n ≡ 0 → b ≡ split_answer (program_from (rules_in rows) flags 0 choice) s
-      → cond b 1 0 ≡ count_from (rules_in rows) flags s n choice
+  pub count_zero : (O : List Option) (b : Bool) → b ≡ split_answer (O ++ flag_options flags) s → cond b 1 0 ≡ count_from [] flags s O
   unfolding count_from choices keep
-  count_zero n choice b e eb = rw (e, eb) (one (split_answer (program_from (rules_in rows) flags 0 choice) s))
+  count_zero O b eb = rw eb (one (split_answer (O ++ flag_options flags) s))
     where
       one : (b : Bool) → cond b 1 0 ≡ length (cond {A = List (List Option)} b ([] ∷ []) [])
       one true = refl
       one false = refl
 
-  counted_most : (n : ℕ) (choice : List ℕ) → count_from (rules_in rows) flags s n choice ≤ split_number (take n (rules_in rows))
-  unfolding count_from
-  counted_most n choice = count_most (λ C. split_answer (C ++ program_from (rules_in rows) flags n choice) s) (take n (rules_in rows))
+  -- the options of the first row, one after the other
+  module _ (r : Rule) (P : List Rule) (O : List Option) where
+    abbrev pub with_option : ℕ → ℕ
+    with_option k = count_from P flags s (O ++ option_at r k ∷ [])
 
-  -- with option k of row m
-  abbrev pub with_option : ℕ → List ℕ → ℕ → ℕ
-  with_option m choice k = count_from (rules_in rows) flags s m (set choice m k)
+    behind : List Option → Bool
+    behind C = split_answer (O ++ (C ++ flag_options flags)) s
 
-  -- the options of the last row, one after the other
-  module _ (n m : ℕ) (choice : List ℕ) (e : n ≡ m + 1) (h : m < length rows) (l : m < length choice) where
-    behind : (k : ℕ) (C : List Option)
-        → (C ++ option_at (row_at rows m) k ∷ []) ++ program_from (rules_in rows) flags n choice ≡ C ++ program_from (rules_in rows) flags m (set choice m k)
-    behind k C =
-        rw (store_option rows flags m k choice h l, e) (append_assoc C (option_at (row_at rows m) k ∷ []) (program_from (rules_in rows) flags (m + 1) choice))
-
-    pub count_step : count_from (rules_in rows) flags s n choice ≡ sum_below (max 1 (length (row_at rows m).head)) (with_option m choice)
-    unfolding count_from
+    pub count_step : count_from (r ∷ P) flags s O ≡ sum_below (max 1 (length r.head)) with_option
+    unfolding count_from sum_below behind
     count_step =
-        ap (count (λ C. split_answer (C ++ program_from (rules_in rows) flags n choice) s)) (rows_last rows m h n e)
-        ∙ count_last (λ C. split_answer (C ++ program_from (rules_in rows) flags n choice) s) (take m (rules_in rows)) (row_at rows m)
-        ∙ options_sum (row_at rows m) (λ o. count (λ C. split_answer ((C ++ o ∷ []) ++ program_from (rules_in rows) flags n choice) s) (take m (rules_in rows)))
-        ∙ rw (row_options (row_at rows m).head)
-        (below_same (max 1 (length (row_at rows m).head)) _ (with_option m choice)
-        (λ k. count_same _ (λ C. split_answer (C ++ program_from (rules_in rows) flags m (set choice m k)) s) (take m (rules_in rows))
-        (λ C. ap (λ D. split_answer D s) (behind k C))))
+        count_row behind r P ∙ options_sum r (λ o. count (λ C. behind (o ∷ C)) P) ∙ rw (row_options r.head)
+        (below_same (max 1 (length r.head)) _ with_option
+        (λ k. count_same _ _ P (λ C. ap (λ D. split_answer D s) (sym (append_assoc O (option_at r k ∷ []) (C ++ flag_options flags))))))
 
     -- the counts so far and the next one are no more than there are split programs
-    pub count_room : (k : ℕ) → k < max 1 (length (row_at rows m).head)
-        → sum_below k (with_option m choice) + with_option m choice k ≤ split_number (take n (rules_in rows))
+    pub count_room : (k : ℕ) → k < max 1 (length r.head) → sum_below k with_option + with_option k ≤ split_number (r ∷ P)
+    unfolding count_from behind
     count_room k lk =
-        let a : sum_below (k + 1) (with_option m choice) ≤ sum_below (max 1 (length (row_at rows m).head)) (with_option m choice)
-        = below_part (k + 1) (max 1 (length (row_at rows m).head)) _ (omega arith) in
-        let b = below_more k (with_option m choice) in
+        let a : sum_below (k + 1) with_option ≤ sum_below (max 1 (length r.head)) with_option
+        = below_part (k + 1) (max 1 (length r.head)) _ (omega arith) in
+        let b = below_more k with_option in
         let c = count_step in
-        let d = counted_most n choice in
+        let d : count_from (r ∷ P) flags s O ≤ split_number (r ∷ P) = count_most behind (r ∷ P) in
         omega arith
 
-  module _ (pairs : List ℕ) where
-    -- all rows, and none behind them but the flags'
-    pub count_whole : (r n : ℕ) (choice : List ℕ) → r ≡ count_from (rules_in rows) flags s n choice → n ≡ length rows → no_pair (pairs_in pairs) s ≡ true
-        → r ≡ split_count (program_in rows pairs flags) s
+  module _ (rows pairs : List ℕ) where
+    -- all rows, and none before them
+    pub count_whole : no_pair (pairs_in pairs) s ≡ true → count_from (rules_in rows) flags s [] ≡ split_count (program_in rows pairs flags) s
     unfolding count_from split_count rules program_in raised flag_options
-    count_whole r n choice er en e =
-        er ∙ rw (program_end rows flags n choice (omega arith), take_all n (rules_in rows) (omega (arith, rows_many rows)))
-        (sym (count_same _ (λ C. split_answer C s) (rules_in rows ++ map fact (keep (has flags) (below 16))) (λ C. ap (λ b. b && split_answer C s) e)
-        ∙ count_facts (λ C. split_answer C s) (rules_in rows) (keep (has flags) (below 16))))
+    count_whole e =
+        sym (count_same _ (λ C. split_answer C s) (rules_in rows ++ map fact (keep (has flags) (below 16))) (λ C. ap (λ b. b && split_answer C s) e)
+        ∙ count_facts (λ C. split_answer C s) (rules_in rows) (keep (has flags) (below 16)))
 
     -- a set that holds a pair is an answer set of none
     pub count_paired : no_pair (pairs_in pairs) s ≡ false → 0 ≡ split_count (program_in rows pairs flags) s
@@ -152,3 +129,43 @@ module _ (rows : List ℕ) (flags s : ℕ) where
     count_paired e =
         sym (count_same _ (λ C. false) (rules (program_in rows pairs flags)) (λ C. ap (λ b. b && split_answer C s) e)
         ∙ ap length (keep_none (choices (rules (program_in rows pairs flags)))))
+
+-- ---- in the words of the rows
+-- without rows the choice is tested
+pub count_end : (flags s : ℕ) (rows : List ℕ) (O : List Option) → length rows ≡ 0 → (b : Bool) → b ≡ split_answer (O ++ flag_options flags) s
+    → (r : ℕ) → r ≡ from_bool b → r ≡ count_from (rules_in rows) flags s O
+unfolding rules_in
+count_end flags s [] O e b eb r er = er ∙ one b ∙ count_zero flags s O b eb
+  where
+    one : (b : Bool) → from_bool b ≡ cond b 1 0
+    one true = refl
+    one false = refl
+count_end flags s (w ∷ rows) O e b eb r er = absurd (omega arith)
+
+module _ (rows rest : List ℕ) (row : ℕ) (e : rows ≡ row ∷ rest) where
+  rows_first : rules_in rows ≡ rule_in row ∷ rules_in rest
+  unfolding rules_in
+  rows_first = rw e
+
+  pub rows_fewer : split_number (rules_in rest) ≤ split_number (rules_in rows)
+  rows_fewer = rw rows_first (number_down (rule_in row) (rules_in rest))
+
+module _ (flags s : ℕ) (rows rest : List ℕ) (row : ℕ) (e : rows ≡ row ∷ rest) (choice : List Chosen) where
+  abbrev pub with_row : ℕ → ℕ
+  with_row = with_option flags s (rule_in row) (rules_in rest) (all_chosen choice)
+
+  pub rows_step : count_from (rules_in rows) flags s (all_chosen choice) ≡ sum_below (max 1 (length (rule_in row).head)) with_row
+  rows_step = rw (rows_first rows rest row e) (count_step flags s (rule_in row) (rules_in rest) (all_chosen choice))
+
+  pub rows_room : (k : ℕ) → k < max 1 (length (rule_in row).head) → sum_below k with_row + with_row k ≤ split_number (rules_in rows)
+  rows_room k l = rw (rows_first rows rest row e) (count_room flags s (rule_in row) (rules_in rest) (all_chosen choice) k l)
+
+  -- the call for the rows after it, with one row more chosen
+  pub row_counted : (k : ℕ) (more : List Chosen) → more ≡ choice ++ record { row = row; option = k } ∷ [] → (r : ℕ)
+      → r ≡ count_from (rules_in rest) flags s (all_chosen more) → r ≡ with_row k
+  unfolding all_chosen chosen
+  row_counted k more em r er = er ∙ rw (em, map-append)
+
+-- what was added last is let go again
+pub popped : (choice more less : List Chosen) (c : Chosen) → more ≡ choice ++ c ∷ [] → less ≡ take (length more - 1) more → less ≡ choice
+popped choice more less c e l = l ∙ rw e (let n : length (choice ++ c ∷ []) - 1 ≡ length choice = omega (arith, length-append choice (c ∷ [])) in rw n (take-append_seam choice (c ∷ [])))

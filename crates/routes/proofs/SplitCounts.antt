@@ -11,10 +11,9 @@ use Rattle.lpod.specs.Answer.{answer}
 use Rattle.lpod.specs.Split.{split_count}
 use Rattle.lpod.proofs.ReductIsSplit.{reduct_is_split}
 use Rattle.page.specs.Program.{program}
-use Rattle.routes.specs.Split.{split_no, counted, uncounted, split_test}
-use Rattle.routes.specs.Tests.{verdict, reduct_test, here_there_test}
-use Rattle.routes.specs.declared.Verdict.{Verdict}
-use Rattle.routes.specs.declared.split.Split.{Split}
+use Rattle.page.specs.Answers.{by_number}
+use Rattle.routes.specs.Split.{Split, split_no, counted, uncounted, split_test}
+use Rattle.routes.specs.Tests.{Verdict, reduct_test, here_there_test}
 use Rattle.routes.proofs.Verdicts.{reduct_says_here_there}
 use Rattle.routes.proofs.SplitAccepted.{split_test_zero}
 
@@ -41,11 +40,11 @@ module _ (page : List ℕ) (flags set : ℕ) where
         (λ t. lt→ltb 0 (split_count (program page flags) set) ((reduct_is_split (program page flags) set).0 t))
 
     -- the three tests say the same
-    pub three_agree : ((split_test page flags set).yes ≡ (reduct_test page flags set).yes) × ((split_test page flags set).yes ≡ (here_there_test page flags set).yes)
-    unfolding reduct_test verdict
+    pub three_agree : ((split_test page flags set).yes ≡ (reduct_test page flags set).value) × ((split_test page flags set).yes ≡ (here_there_test page flags set).value)
+    unfolding reduct_test by_number
     three_agree =
-        let r : (split_test page flags set).yes ≡ (reduct_test page flags set).yes = split_says ∙ rw (split_test_zero page flags set e) in
-        (r, r ∙ ap (λ (v : Verdict). v.yes) (reduct_says_here_there page flags set))
+        let r : (split_test page flags set).yes ≡ (reduct_test page flags set).value = split_says ∙ rw (split_test_zero page flags set e) in
+        (r, r ∙ ap (λ (v : Verdict). v.value) (reduct_says_here_there page flags set))
 
   -- the number is given whether or not the test counts
   pub split_gives : (split_test page flags set).no ≡ split_no page flags set

@@ -4,10 +4,10 @@ use mathlib.Core.Path.{◌≡◌, refl, sym, ◌∙◌}
 use mathlib.Core.Bool.{true, false}
 use mathlib.Core.List.{List, [], ◌∷◌, ◌++◌, map}
 use Prim.Native.Nat.{ℕ, ◌+◌, ◌*◌, ◌≤◌, ◌<◌, max}
-use native.Mathlib.Nat.{mul_assoc, mul-one, one-mul, mul-pos, mul-le-mul, le-mul_of_pos_right}
+use native.Mathlib.Nat.{mul_assoc, mul-one, one-mul, mul-pos, mul-le-mul, le-mul_of_pos_right, mul_comm}
 use native.Mathlib.Omega.{arith}
 use lib.Dec.{ltb}
-use lib.ListN.{length, get_or, take, drop}
+use lib.ListN.{length, get_or, drop}
 use borrow.Author.Tests.{lt-ltb, le-ltb}
 use Rattle.atoms.specs.Atoms.{has}
 use Rattle.lpod.specs.Lists.{keep, below}
@@ -17,7 +17,6 @@ use Rattle.page.specs.Program.{rows_of, program}
 use Rattle.words.specs.Coded.{rule_in, rules_in}
 use Rattle.words.proofs.Rest.{rest_step, rest_none}
 use Rattle.routes.specs.Split.{too_many}
-use Rattle.routes.proofs.SplitRows.{row_at, rows_last}
 
 -- ---- one row
 pub row_options : (hs : List ℕ) → option_count hs ≡ max 1 (length hs)
@@ -52,10 +51,9 @@ unfolding rules program raised
 number_flags page flags = number_append (rows_of page) (map fact (keep (has flags) (below 16))) ∙ rw (number_facts (keep (has flags) (below 16)), mul-one)
 
 -- with one row fewer there are no more
-pub number_down : (rows : List ℕ) (n m : ℕ) → n ≡ m + 1 → m < length rows → split_number (take m (rules_in rows)) ≤ split_number (take n (rules_in rows))
-number_down rows n m e h =
-    rw (rows_last rows m h n e, number_append (take m (rules_in rows)) (row_at rows m ∷ []))
-    (le-mul_of_pos_right (split_number (take m (rules_in rows))) (number_some (row_at rows m ∷ [])))
+pub number_down : (r : Rule) (P : List Rule) → split_number P ≤ split_number (r ∷ P)
+unfolding split_number
+number_down r P = rw (mul_comm (option_count r.head) (split_number P)) (le-mul_of_pos_right (split_number P) (options_some r.head))
 
 -- ---- the product so far, and that of the rows left
 pub number_first : (rows : List ℕ) → split_number (rules_in rows) ≡ 1 * split_number (map rule_in (drop 0 rows))
@@ -63,10 +61,10 @@ unfolding rules_in
 number_first rows = rw one-mul
 
 module _ (rows : List ℕ) (n number : ℕ) (e : split_number (rules_in rows) ≡ number * split_number (map rule_in (drop n rows))) where
-  pub number_next : (options : ℕ) → n < length rows → options ≡ max 1 (length (row_at rows n).head)
+  pub number_next : (options : ℕ) → n < length rows → options ≡ max 1 (length (rule_in (get_or rows n 0)).head)
       → split_number (rules_in rows) ≡ number * options * split_number (map rule_in (drop (n + 1) rows))
   unfolding split_number
-  number_next options h eo = e ∙ rw (rest_step rule_in rows n h (get_or rows n 0) refl, row_options (row_at rows n).head, ← eo, mul_assoc)
+  number_next options h eo = e ∙ rw (rest_step rule_in rows n h (get_or rows n 0) refl, row_options (rule_in (get_or rows n 0)).head, ← eo, mul_assoc)
 
   pub number_end : length rows ≤ n → number ≤ 4096 → false ≡ ltb 4096 (split_number (rules_in rows))
   unfolding split_number
@@ -81,7 +79,7 @@ module _ (rows : List ℕ) (n number : ℕ) (e : split_number (rules_in rows) �
 
 -- with one row more it is above 4,096, and so is the whole
 pub number_over : (rows : List ℕ) (n number options : ℕ) → split_number (rules_in rows) ≡ number * split_number (map rule_in (drop n rows)) → n < length rows
-    → options ≡ max 1 (length (row_at rows n).head) → 4096 < number * options → true ≡ ltb 4096 (split_number (rules_in rows))
+    → options ≡ max 1 (length (rule_in (get_or rows n 0)).head) → 4096 < number * options → true ≡ ltb 4096 (split_number (rules_in rows))
 number_over rows n number options e h eo l = number_stop rows (n + 1) (number * options) (number_next rows n number e options h eo) l
 
 -- so it stays small enough to be multiplied once more

@@ -21,7 +21,8 @@ use Rattle.lpod.specs.Least.{fire}
 use Rattle.lpod.specs.Split.{gives, bars, gl_row, bar_holds}
 use Rattle.lpod.proofs.Lists.{some_append}
 use Rattle.words.specs.Coded.{rule_in, digits}
-use Rattle.routes.specs.Choice.{option_in, option_at, bar_row}
+use Rattle.routes.specs.Choice.{option_in, option_at, chosen}
+use Rattle.routes.specs.declared.split.Chosen.{Chosen}
 
 -- ---- the head atoms before k
 place_least : (l : List ℕ) (b s : ℕ) → (place b l s ≡ 0) ⊎ (b ≤ place b l s)
@@ -98,52 +99,52 @@ gives_fire a pos neg set s t = go (some_in neg set)
     go true = refl
     go false = refl
 
--- the row in hand, with what the code has of it: the negative body's answer, the first head atom's place, the positive body's answer
-module _ (r : Rule) (k set s t : ℕ) where
-  pub fire_headless : length r.head ≡ 0 → t ≡ fire (gl_row set (option_at r k)) s t
-  unfolding gl_row fire
-  fire_headless e = rw (headless r k e)
+module _ (c : Chosen) (set s t : ℕ) where
+  abbrev row : Rule
+  row = rule_in c.row
 
-  module _ (h : 0 < length r.head) (neg : Bool) (first : ℕ) (en : neg ≡ some_in r.neg set) (ef : first ≡ place 1 r.head set) where
-    barred : some_in (r.neg ++ take k r.head) set ≡ (neg || up_to first k)
-    unfolding some_in
-    barred = some_append (has set) r.neg (take k r.head) ∙ rw (en, ef, some_before r.head k set)
+  barred : some_in (row.neg ++ take c.option row.head) set ≡ (some_in row.neg set || up_to (place 1 row.head set) c.option)
+  unfolding some_in
+  barred = some_append (has set) row.neg (take c.option row.head) ∙ rw (some_before row.head c.option set)
 
-    -- what it adds, whatever the positive body says
-    fires : fire (gl_row set (option_at r k)) s t
-        ≡ cond (neg || up_to first k) t (cond (all_in r.pos s) (insert t (get_or r.head k 0)) t)
-    fires = rw (headed r k h, gives_fire, barred)
+  -- what it adds, whatever the positive body says
+  fires : 0 < length row.head → fire (gl_row set (chosen c)) s t
+      ≡ cond (some_in row.neg set || up_to (place 1 row.head set) c.option) t (cond (all_in row.pos s) (insert t (get_or row.head c.option 0)) t)
+  unfolding chosen
+  fires h = rw (headed row c.option h, gives_fire, barred)
 
-    pub fire_denied : neg ≡ true → t ≡ fire (gl_row set (option_at r k)) s t
-    fire_denied e = sym (fires ∙ rw e)
+  pub fire_headless : length row.head ≡ 0 → t ≡ fire (gl_row set (chosen c)) s t
+  unfolding chosen gl_row fire
+  fire_headless e = rw (headless row c.option e)
 
-    module _ (e : neg ≡ false) where
-      pub fire_earlier : up_to first k ≡ true → t ≡ fire (gl_row set (option_at r k)) s t
-      fire_earlier u = sym (fires ∙ rw (e, u))
+  pub fire_denied : 0 < length row.head → some_in row.neg set ≡ true → t ≡ fire (gl_row set (chosen c)) s t
+  fire_denied h e = sym (fires h ∙ rw e)
 
-      module _ (u : up_to first k ≡ false) (pos : Bool) (ep : pos ≡ all_in r.pos s) where
-        pub fire_missed : pos ≡ false → t ≡ fire (gl_row set (option_at r k)) s t
-        fire_missed z = sym (fires ∙ rw (e, u, ← ep, z))
+  pub fire_earlier : 0 < length row.head → some_in row.neg set ≡ false → 0 < place 1 row.head set → place 1 row.head set ≤ c.option → t ≡ fire (gl_row set (chosen c)) s t
+  fire_earlier h e u v = sym (fires h ∙ rw (e, lt-ltb 0 (place 1 row.head set) u, le-leb (place 1 row.head set) c.option v))
 
-        pub fire_added : pos ≡ true → (a : ℕ) → a ≡ get_or r.head k 0 → get_or r.head k 0 < 16
-            → with_atom t a ≡ fire (gl_row set (option_at r k)) s t
-        fire_added z a ea l = ap (with_atom t) ea ∙ with_insert t (get_or r.head k 0) l ∙ sym (fires ∙ rw (e, u, ← ep, z))
+  pub fire_missed : 0 < length row.head → all_in row.pos s ≡ false → t ≡ fire (gl_row set (chosen c)) s t
+  fire_missed h e = sym (fires h ∙ rw e (go (some_in row.neg set || up_to (place 1 row.head set) c.option)))
+    where
+      go : (b : Bool) → cond b t t ≡ t
+      go true = refl
+      go false = refl
+
+  pub fire_added : 0 < length row.head → some_in row.neg set ≡ false → (0 < place 1 row.head set → c.option < place 1 row.head set) → all_in row.pos s ≡ true
+      → with_atom t (get_or row.head c.option 0) ≡ fire (gl_row set (chosen c)) s t
+  fire_added h e u z =
+      with_insert t (get_or row.head c.option 0) (head_small c.row c.option) ∙ sym (fires h ∙ rw (e, later (place 1 row.head set) c.option u, z))
+    where
+      later : (p k : ℕ) → (0 < p → k < p) → up_to p k ≡ false
+      later zero k f = refl
+      later (suc p) k f = rw (lt-leb (suc p) k (f (omega arith))) (and-false (ltb 0 (suc p)))
 
 -- ---- rows without head
--- whichever option of a row is taken, what it asks of the set itself is the same
-pub bar_any : (r : Rule) (k s : ℕ) → bar_holds s (option_at r k) ≡ bar_row s r
-unfolding bar_row option_at option_in bar_holds
-bar_any r k s = go r.head
-  where
-    go : (hs : List ℕ) → bar_holds s (option_in r k hs) ≡ bar_holds s (option_in r 0 hs)
-    go [] = refl
-    go (c ∷ cs) = refl
+module _ (c : Chosen) (s : ℕ) where
+  pub bar_headed : 0 < length (rule_in c.row).head → true ≡ bar_holds s (chosen c)
+  unfolding chosen bar_holds
+  bar_headed h = rw (headed (rule_in c.row) c.option h)
 
-module _ (r : Rule) (s : ℕ) where
-  pub bar_headed : 0 < length r.head → true ≡ bar_row s r
-  unfolding bar_row bar_holds
-  bar_headed h = rw (headed r 0 h)
-
-  pub bar_headless : length r.head ≡ 0 → (b : Bool) → b ≡ body_holds r s → not b ≡ bar_row s r
-  unfolding bar_row bar_holds body_holds
-  bar_headless e b eb = rw (headless r 0 e, eb)
+  pub bar_headless : length (rule_in c.row).head ≡ 0 → not (body_holds (rule_in c.row) s) ≡ bar_holds s (chosen c)
+  unfolding chosen bar_holds body_holds
+  bar_headless e = rw (headless (rule_in c.row) c.option e)

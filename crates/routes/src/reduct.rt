@@ -9,38 +9,27 @@ ghost use Rattle.words.specs.Coded.{rule_in, rules_in, rules_with, program_in};
 ghost use Rattle.routes.specs.Tests.{ReductSays};
 ghost use Rattle.routes.specs.Rounds.{RoundsSays};
 
-use super::Verdict;
+use super::first_in_head;
 use page::accept;
+use page::refusal::Refusal;
 use words::{read, row, rows};
 
 // What one row adds to t: its rule of the reduct for `set`, if it has one and the positive body is in s. The cheap tests come first.
+#[tactic(auto, using(crate::proofs::HeadFirst::fire_blocked, crate::proofs::HeadFirst::fire_waits, crate::proofs::HeadFirst::fire_first))]
 fn row_fire(row: u64, set: u16, s: u16, t: u16) -> u16
     ensures { result ≡ means.fire (reduct_row (rule_in row) set) s t }
 {
-    if row::neg_in(row, set) {
+    if row::neg_in(row, set) || !row::pos_in(row, s) {
         return t;
     }
-    if !row::pos_in(row, s) {
-        return t;
-    }
-    let k = row::head_place(row, set);
-    if k == 0 {
-        return t;
-    }
-    atoms::with_atom(t, row::head_atom(row, k - 1))
+    first_in_head(row, set).map_or(t, |atom| atoms::with_atom(t, atom))
 }
 
 // What all rows add to s in one round. They fire together: each body is tested in s, not in what the round has added.
 fn rows_fire(rows: &[u64], set: u16, s: u16) -> u16
     ensures { result ≡ means.fire (reduct (rules_in rows.now) set) s s }
 {
-    let mut t = s;
-    let mut n = 0;
-    while n < rows.len() {
-        t = row_fire(rows[n], set, s, t);
-        n += 1;
-    }
-    t
+    rows.iter().fold(s, |t, &row| row_fire(row, set, s, t))
 }
 
 // One round: the rows, and the rows of the raised atoms. Such a row has its rule in the reduct where `set` holds the atom.
@@ -67,35 +56,24 @@ pub fn least_of(rows: &[u64], flags: u16, set: u16) -> u16
 }
 
 // The four tests of an answer set, in this order: no pair, rows, raised flags, support.
+#[tactic(auto, using(crate::proofs::FourTests::satisfied_flags), unfolding(lpod::specs::Answer::answer, lpod::specs::Rule::rules, words::specs::Coded::rules_with, words::specs::Coded::program_in))]
 pub fn is_answer(rows: &[u64], pairs: &[u16], flags: u16, set: u16) -> bool
     ensures { result ≡ answer (program_in rows.now pairs.now flags) set }
 {
-    if !rows::no_pair(pairs, set) {
-        return false;
-    }
-    if !rows::rows_satisfied(rows, set) {
-        return false;
-    }
-    if !atoms::part_of(flags, set) {
-        return false;
-    }
-    least_of(rows, flags, set) == set
+    rows::no_pair(pairs, set)
+        && rows::rows_satisfied(rows, set)
+        && atoms::part_of(flags, set)
+        && least_of(rows, flags, set) == set
 }
 
 // The reduct test of a set: refusals 1 to 9, then the answer.
-pub fn reduct_test(page: &[u8], flags: u16, set: u16) -> Verdict
+pub fn reduct_test(page: &[u8], flags: u16, set: u16) -> Result<bool, Refusal>
     ensures { ReductSays page.now flags set result }
 {
-    let no = accept::test_no(page, flags, set);
-    if no != 0 {
-        return Verdict { no, yes: false };
-    }
-    let n = read::row_total(page);
+    accept::check_test(page, flags, set)?;
     let rows = read::row_words(page);
-    let q = read::pair_total(page);
     let pairs = read::pair_words(page);
-    let yes = is_answer(&rows[..n], &pairs[..q], flags, set);
-    Verdict { no: 0, yes }
+    Ok(is_answer(&rows, &pairs, flags, set))
 }
 
 // How many rounds from the empty set add something. Each brings in an atom of `set`, so there are no more of them than the set has atoms;
@@ -105,35 +83,21 @@ fn count_rounds(rows: &[u64], flags: u16, set: u16) -> u32
 {
     let most = atoms::how_many(set);
     let mut reached = 0;
-    let mut count = 0;
-    while count < most {
+    for count in 0..most {
         let next = round(rows, flags, set, reached);
         if next == reached {
             return count;
         }
         reached = next;
-        count += 1;
     }
-    count
+    most
 }
 
-// What the count of rounds answers.
-#[derive(Clone, Copy)]
-pub struct Counted {
-    pub no: u16,
-    pub count: u32,
-}
-
-// How many rounds add something by the reduct for `set`, an answer set or not: refusals 1 to 9, then the count.
-pub fn rounds(page: &[u8], flags: u16, set: u16) -> Counted
-    ensures { RoundsSays page.now flags set result }
+// How many rounds add something on the way to a set, an answer set or not, by the reduct for it: refusals 1 to 9, then the count.
+pub fn rounds(page: &[u8], flags: u16, to: u16) -> Result<u32, Refusal>
+    ensures { RoundsSays page.now flags to result }
 {
-    let no = accept::test_no(page, flags, set);
-    if no != 0 {
-        return Counted { no, count: 0 };
-    }
-    let n = read::row_total(page);
+    accept::check_test(page, flags, to)?;
     let rows = read::row_words(page);
-    let count = count_rounds(&rows[..n], flags, set);
-    Counted { no: 0, count }
+    Ok(count_rounds(&rows, flags, to))
 }

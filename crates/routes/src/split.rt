@@ -1,32 +1,22 @@
 // The split test: how many split programs of a page and its flags have a set as answer set. A split program takes one option of each row.
-ghost use Rattle.std.specs.Prelude.{◌≡◌, ◌≤◌, max, ltb, length, take};
+ghost use Rattle.std.specs.Prelude.{◌≡◌, ◌+◌, ◌≤◌, max, ltb, length};
 ghost use Rattle.lpod.specs.Lists.{every};
 ghost use Rattle.lpod.specs.Least.{fire, least};
-ghost use Rattle.lpod.specs.Split.{split_number, split_count, split_answer, gl_row, gl_reduct};
+ghost use Rattle.lpod.specs.Split.{split_number, split_count, split_answer, gl_row, gl_reduct, bar_holds};
 ghost use Rattle.words.specs.Coded.{rule_in, rules_in, program_in};
 ghost use Rattle.routes.specs.Choice as choices;
 ghost use Rattle.routes.specs.Split as means;
 
+use arrayvec::ArrayVec;
 use page::accept;
+use page::refusal::Refusal;
 use words::{read, row, rows};
-
-// The answer: the refusal number, how many split programs have the set as answer set, and whether one has.
-#[derive(Clone, Copy)]
-pub struct Split {
-    pub no: u16,
-    pub count: u16,
-    pub yes: bool,
-}
 
 // How many options a row has: one for each head atom. A row without head is its own one option.
 fn option_count(row: u64) -> u8
     ensures { result ≡ max 1 (length (rule_in row).head) }
 {
-    let head = row::head_count(row);
-    if 0 < head {
-        return head;
-    }
-    1
+    row::head_count(row).max(1)
 }
 
 // There are more than 4,096 split programs. Their number is the product of the option counts; it needs up to 83 bits, so that
@@ -36,123 +26,100 @@ fn too_many(rows: &[u64]) -> bool
     ensures { result ≡ ltb 4096 (split_number (rules_in rows.now)) }
 {
     let mut number: u32 = 1;
-    let mut n = 0;
-    while n < rows.len() {
-        let options = option_count(rows[n]) as u32;
-        number *= options;
+    for &row in rows {
+        number *= u32::from(option_count(row));
         if 4096 < number {
             return true;
         }
-        n += 1;
     }
     false
 }
 
-// What option k of a row, counted from 0, adds to t in a round from s. A row without head adds nothing, nor does an option of which a negative atom or
-// an earlier head atom is in the set. Else head atom k is added where the positive body is in s, whether or not that atom is in the set.
-fn option_fire(row: u64, k: u8, set: u16, s: u16, t: u16) -> u16
-    ensures { result ≡ fire (gl_row set (choices.option_at (rule_in row) k)) s t }
-{
-    if row::head_count(row) == 0 {
-        return t;
-    }
-    if row::neg_in(row, set) {
-        return t;
-    }
-    let first = row::head_place(row, set);
-    if (0 < first) & (first <= k) {
-        return t;
-    }
-    if row::pos_in(row, s) {
-        return atoms::with_atom(t, row::head_atom(row, k));
-    }
-    t
+// A row and which of its options is taken, counted from 0.
+#[derive(Clone, Copy, Default)]
+struct Chosen {
+    row: u64,
+    option: u8,
 }
 
-// One round from s of the chosen split program: all its rules whose body holds in s fire together. A flag's rule has no body.
-fn round(rows: &[u64], flags: u16, set: u16, choice: &[u8; 32], s: u16) -> u16
-    requires { length rows.now ≤ 32 }
-    ensures { result ≡ fire (gl_reduct (choices.program_from (rules_in rows.now) flags 0 choice.now) set) s s }
-{
-    let mut t = s;
-    let mut n = 0;
-    while n < rows.len() {
-        t = option_fire(rows[n], choice[n], set, s, t);
-        n += 1;
+impl Chosen {
+    // What the option adds to t in a round from s. A row without head adds nothing, nor does an option of which a negative atom or an earlier
+    // head atom is in the set. Else its head atom is added where the positive body is in s, whether or not that atom is in the set.
+    #[tactic(auto, using(crate::proofs::SplitOption::fire_headless, crate::proofs::SplitOption::fire_denied, crate::proofs::SplitOption::fire_earlier, crate::proofs::SplitOption::fire_missed, crate::proofs::SplitOption::fire_added))]
+    fn fire(self, set: u16, s: u16, t: u16) -> u16
+        ensures { result ≡ fire (gl_row set (choices.chosen self)) s t }
+    {
+        if row::head_count(self.row) == 0 || row::neg_in(self.row, set) {
+            return t;
+        }
+        let first = row::head_place(self.row, set);
+        if 0 < first && first <= self.option || !row::pos_in(self.row, s) {
+            return t;
+        }
+        atoms::with_atom(t, row::head_atom(self.row, self.option))
     }
-    atoms::union(t, flags)
+
+    // A row without head is satisfied: its body does not hold in the set. Of a row with head nothing is asked here.
+    #[tactic(auto, using(crate::proofs::SplitOption::bar_headed, crate::proofs::SplitOption::bar_headless))]
+    fn bar_holds(self, set: u16) -> bool
+        ensures { result ≡ bar_holds set (choices.chosen self) }
+    {
+        row::head_count(self.row) != 0 || !row::body_holds(self.row, set)
+    }
 }
 
-// The least set closed under the chosen split program: rounds from the empty set until one adds nothing, at most 17.
-fn least_closed(rows: &[u64], flags: u16, set: u16, choice: &[u8; 32]) -> u16
-    requires { length rows.now ≤ 32 }
-    ensures { result ≡ least (gl_reduct (choices.program_from (rules_in rows.now) flags 0 choice.now) set) }
+// One round from s of the split program that is chosen: all its rules whose body holds in s fire together. A flag's rule has no body.
+fn round(choice: &[Chosen], flags: u16, set: u16, s: u16) -> u16
+    ensures { result ≡ fire (gl_reduct (choices.program_of choice.now flags) set) s s }
 {
-    let mut s: u16 = 0;
-    let mut t = round(rows, flags, set, choice, s);
-    while s != t {
+    let rows = choice.iter().fold(s, |t, chosen| chosen.fire(set, s, t));
+    atoms::union(rows, flags)
+}
+
+// The least set closed under the split program that is chosen: rounds from the empty set until one adds nothing, at most 17.
+fn least_closed(choice: &[Chosen], flags: u16, set: u16) -> u16
+    ensures { result ≡ least (gl_reduct (choices.program_of choice.now flags) set) }
+{
+    let mut s = 0;
+    loop {
+        let t = round(choice, flags, set, s);
+        if t == s {
+            return s;
+        }
         s = t;
-        t = round(rows, flags, set, choice, s);
     }
-    s
-}
-
-// A row without head is satisfied: its body does not hold in the set. Of a row with head nothing is asked here.
-fn bar_holds(row: u64, set: u16) -> bool
-    ensures { result ≡ choices.bar_row set (rule_in row) }
-{
-    if row::head_count(row) != 0 {
-        return true;
-    }
-    !row::body_holds(row, set)
 }
 
 // All rows without head are satisfied.
-fn bars_hold(rows: &[u64], set: u16) -> bool
-    ensures { result ≡ every (choices.bar_row set) (rules_in rows.now) }
+fn bars_hold(choice: &[Chosen], set: u16) -> bool
+    ensures { result ≡ every (bar_holds set) (choices.all_chosen choice.now) }
 {
-    let mut n = 0;
-    while n < rows.len() {
-        if !bar_holds(rows[n], set) {
-            return false;
-        }
-        n += 1;
-    }
-    true
+    choice.iter().all(|chosen| chosen.bar_holds(set))
 }
 
-// The set is an answer set of the chosen split program.
-fn chosen_answer(rows: &[u64], flags: u16, set: u16, choice: &[u8; 32]) -> bool
-    requires { length rows.now ≤ 32 }
-    ensures { result ≡ split_answer (choices.program_from (rules_in rows.now) flags 0 choice.now) set }
+// The set is an answer set of the split program that is chosen.
+#[tactic(auto, using(crate::proofs::SplitRound::bars_program), unfolding(lpod::specs::Split::split_answer))]
+fn chosen_answer(choice: &[Chosen], flags: u16, set: u16) -> bool
+    ensures { result ≡ split_answer (choices.program_of choice.now flags) set }
 {
-    if bars_hold(rows, set) {
-        return least_closed(rows, flags, set, choice) == set;
-    }
-    false
+    bars_hold(choice, set) && least_closed(choice, flags, set) == set
 }
 
-// How many choices of options for the first n rows, with that of `choice` for the others, have the set as answer set. It goes through the options
-// of row n - 1, and for each through those of the rows before it. At most 4,096 choices are tested.
-fn count_from(rows: &[u64], flags: u16, set: u16, n: usize, choice: [u8; 32]) -> u16
-    requires { (length rows.now ≤ 32) × (n ≤ length rows.now) × (split_number (take n (rules_in rows.now)) ≤ 4096) }
-    ensures { result ≡ choices.count_from (rules_in rows.now) flags set n choice }
+// How many choices of options for the rows, behind what is chosen, have the set as answer set. It goes through the options of the first row, and
+// for each through those of the rows after it. At most 4,096 choices are tested.
+fn count_from(rows: &[u64], flags: u16, set: u16, choice: &mut ArrayVec<Chosen, 32>) -> u16
+    requires { (length choice.old.items + length rows.now ≤ 32) × (split_number (rules_in rows.now) ≤ 4096) }
+    ensures count { result ≡ choices.count_from (rules_in rows.now) flags set (choices.all_chosen choice.old.items) }
+    ensures kept { choice.new.items ≡ choice.old.items }
 {
-    if n == 0 {
-        if chosen_answer(rows, flags, set, &choice) {
-            return 1;
-        }
-        return 0;
-    }
-    let at = n - 1;
-    let options = option_count(rows[at]);
-    let mut total: u16 = 0;
-    let mut k: u8 = 0;
-    while k < options {
-        let mut next = choice;
-        next[at] = k;
-        total += count_from(rows, flags, set, at, next);
-        k += 1;
+    let Some((&row, rest)) = rows.split_first() else {
+        return u16::from(chosen_answer(choice, flags, set));
+    };
+    let mut total = 0;
+    for option in 0..option_count(row) {
+        choice.push(Chosen { row, option });
+        total += count_from(rest, flags, set, choice);
+        choice.pop();
     }
     total
 }
@@ -163,39 +130,21 @@ fn split_count(rows: &[u64], pairs: &[u16], flags: u16, set: u16) -> u16
     ensures { result ≡ split_count (program_in rows.now pairs.now flags) set }
 {
     if rows::no_pair(pairs, set) {
-        return count_from(rows, flags, set, rows.len(), [0; 32]);
+        return count_from(rows, flags, set, &mut ArrayVec::new());
     }
     0
 }
 
-// The split test of a set: the refusal number; accepted, how many split programs have the set as answer set, and yes where one has; refused, 0 and
-// no. At most 4,096 split programs are tested. The page is put into words once.
-pub fn split_test(page: &[u8], flags: u16, set: u16) -> Split
+// The split test of a set: refusals 1 to 9 and 12, then how many split programs have the set as answer set. It is one where the count is above 0.
+// At most 4,096 split programs are tested. The page is put into words once.
+pub fn split_test(page: &[u8], flags: u16, set: u16) -> Result<u16, Refusal>
     ensures { means.SplitSays page.now flags set result }
 {
-    let no = accept::test_no(page, flags, set);
-    if no != 0 {
-        return Split {
-            no,
-            count: 0,
-            yes: false,
-        };
-    }
-    let n = read::row_total(page);
+    accept::check_test(page, flags, set)?;
     let rows = read::row_words(page);
-    if too_many(&rows[..n]) {
-        return Split {
-            no: 12,
-            count: 0,
-            yes: false,
-        };
+    if too_many(&rows) {
+        return Err(Refusal::TooManySplits);
     }
-    let q = read::pair_total(page);
     let pairs = read::pair_words(page);
-    let count = split_count(&rows[..n], &pairs[..q], flags, set);
-    Split {
-        no: 0,
-        count,
-        yes: 0 < count,
-    }
+    Ok(split_count(&rows, &pairs, flags, set))
 }

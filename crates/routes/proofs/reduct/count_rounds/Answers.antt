@@ -1,5 +1,5 @@
--- `reduct::count_rounds` makes rounds from the empty set and counts them. What is kept: each that was counted added something, and they have come to the
--- set reached. It stops where a round adds nothing, or after as many rounds as the set has atoms, when it has come to the set. Assumes nothing.
+-- `count_rounds` stops where a round adds nothing, or after as many rounds as the set has atoms, when it has come to the set. Assumes nothing.
+use mathlib.Core.Path.{◌≡◌, sym, ◌∙◌}
 use native.Mathlib.Omega.{arith}
 use Rattle.routes.proofs.Rounds.{made_start, made_round, made_quiet, made_whole}
 use Rattle.routes.proofs.reduct.count_rounds.Goals as goal
@@ -18,4 +18,6 @@ loop-count-preserved c =
     made_round _ _ _ r.result r.ensures c.loop-count.invariant c.if-next-reached.false
 
 pub returns : goal.returns
-returns c = made_whole _ _ _ _ (omega (arith, c.how_many-most.ensures)) c.loop-count.invariant
+returns c =
+    let e : c.loop-count.count ≡ c.how_many-most.result = omega arith in
+    sym e ∙ made_whole _ _ _ _ (omega (arith, c.how_many-most.ensures)) c.loop-count.invariant

@@ -1,50 +1,55 @@
--- `split::count_from` calls itself with one row fewer. Without rows it tests the choice; else it adds up the counts with each option of the last row. What
--- is kept: the total is the sum over the options passed. It is no more than the number of split programs, so that it fits. Assumes nothing.
-use Rattle.std.proofs.Common.{◌≡◌, ◌-◌, max, length, refl, sym, ap, ◌∙◌, cond, arith}
-use Rattle.routes.proofs.SplitRows.{row_at}
+-- `count_from` calls itself for the rows after the first. Without rows it tests the choice; else it adds up the counts with each option of the first
+-- row. The total is no more than the number of split programs, so that it fits. Assumes nothing.
+use Rattle.std.proofs.Common.{◌≡◌, max, length, refl, sym, ap, ◌∙◌, arith}
+use Rattle.words.specs.Coded.{rule_in}
+use Rattle.routes.specs.Choice.{all_chosen, program_of}
 use Rattle.routes.proofs.SplitSums.{sum_below, below_more}
-use Rattle.routes.proofs.SplitNumber.{number_down}
-use Rattle.routes.proofs.SplitChoices.{with_option, count_zero, count_step, count_room}
+use Rattle.routes.proofs.SplitChoices.{count_end, with_row, rows_step, rows_room, rows_fewer, row_counted, popped}
 use Rattle.routes.proofs.split.+count_from.Goals as goal
 
-pub returns-then-chosen_answer : goal.returns-then-chosen_answer
-returns-then-chosen_answer t c =
+pub returns-in_default-clause-count : goal.returns-in_default-clause-count
+unfolding program_of
+returns-in_default-clause-count t c =
     let a = c.args in
-    ap (λ b. cond b 1 0) (sym c.if-chosen_answer.true) ∙ count_zero a.rows.now a.flags a.set a.n a.choice _ c.if-n-eq0.true c.chosen_answer.ensures
+    let none : length a.rows.now ≡ 0 = grind arith in
+    count_end a.flags a.set a.rows.now (all_chosen a.choice.now.items) none c.chosen_answer.result (c.chosen_answer.ensures ∙ rw c.deref.ensures.0) _ c.from.ensures
 
-pub returns-then-n-eq0 : goal.returns-then-n-eq0
-returns-then-n-eq0 t c =
-    let a = c.args in
-    ap (λ b. cond b 1 0) (sym c.if-chosen_answer.false) ∙ count_zero a.rows.now a.flags a.set a.n a.choice _ c.if-n-eq0.true c.chosen_answer.ensures
-
-pub loop-k-init : goal.loop-k-init
+pub loop-option-init : goal.loop-option-init
 unfolding sum_below
-loop-k-init t c = (omega arith, refl)
+loop-option-init t c = record { kept = refl; counted = refl }
 
 pub count_from-total-requires : goal.count_from-total-requires
 count_from-total-requires t c =
-    let a = c.args in
-    (omega arith, (c.requires.0, omega arith, omega (arith, number_down a.rows.now a.n (a.n - 1) (omega arith) (omega arith))))
+    let rows = c.in-Some.ensures.cases in
+    let p = c.push.ensures.len in
+    let k = ap length c.loop-option.invariant.kept in
+    (omega arith, (omega arith, omega (arith, rows_fewer _ _ _ rows.0)))
 
 pub overflow_add-total : goal.overflow_add-total
 overflow_add-total t c =
     let a = c.args in
-    omega (
-      arith,
-      count_room a.rows.now a.flags a.set a.n (a.n - 1) a.choice (omega arith) (omega arith) (omega arith) c.loop-k.k
-          (omega (arith, c.option_count-options.ensures)),
-      c.count_from-total.ensures,
-    )
+    let h = c.loop-option in
+    let rows = c.in-Some.ensures.cases in
+    let room = rows_room a.flags a.set _ _ _ rows.0 a.choice.now.items h.option (omega (arith, c.option_count-option-end.ensures)) in
+    let next = row_counted a.flags a.set _ _ _ rows.0 a.choice.now.items h.option _ (c.push.ensures.items ∙ rw h.invariant.kept) _ c.count_from-total.ensures.count in
+    omega (arith, room, next, h.invariant.counted)
 
-pub loop-k-preserved : goal.loop-k-preserved
-loop-k-preserved t c =
+pub loop-option-preserved : goal.loop-option-preserved
+loop-option-preserved t c =
     let a = c.args in
-    (omega arith, omega (arith, below_more c.loop-k.k (with_option a.rows.now a.flags a.set (a.n - 1) a.choice), c.count_from-total.ensures))
+    let h = c.loop-option in
+    let rows = c.in-Some.ensures.cases in
+    let next = row_counted a.flags a.set _ _ _ rows.0 a.choice.now.items h.option _ (c.push.ensures.items ∙ rw h.invariant.kept) _ c.count_from-total.ensures.count in
+    record {
+      kept = popped _ _ _ _ (c.count_from-total.ensures.kept ∙ c.push.ensures.items) c.pop.ensures.rest ∙ h.invariant.kept;
+      counted = omega (arith, below_more h.option (with_row a.flags a.set _ _ _ rows.0 a.choice.now.items), next, h.invariant.counted);
+    }
 
-pub returns : goal.returns
-returns t c =
+pub returns-clause-count : goal.returns-clause-count
+returns-clause-count t c =
     let a = c.args in
-    let h = c.loop-k in
-    let e : h.k ≡ max 1 (length (row_at a.rows.now (a.n - 1)).head) = omega (arith, c.option_count-options.ensures) in
-    h.invariant.1 ∙ ap (λ m. sum_below m (with_option a.rows.now a.flags a.set (a.n - 1) a.choice)) e
-    ∙ sym (count_step a.rows.now a.flags a.set a.n (a.n - 1) a.choice (omega arith) (omega arith) (omega arith))
+    let h = c.loop-option in
+    let rows = c.in-Some.ensures.cases in
+    let e : h.option ≡ max 1 (length (rule_in c.in-Some.field-0-0.now).head) = omega (arith, c.option_count-option-end.ensures) in
+    h.invariant.counted ∙ ap (λ m. sum_below m (with_row a.flags a.set _ _ _ rows.0 a.choice.now.items)) e
+    ∙ sym (rows_step a.flags a.set _ _ _ rows.0 a.choice.now.items)

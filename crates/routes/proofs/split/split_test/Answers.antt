@@ -1,36 +1,26 @@
--- `split::split_test`: refused, the number alone; accepted, the count over the page's words, which mean its program. Assumes nothing.
-use native.Mathlib.Omega.{arith}
-use Rattle.words.proofs.Lent.{words_many}
-use Rattle.routes.specs.Split.{counted, uncounted}
-use Rattle.routes.proofs.SplitAccepted.{refused_found, refused_many, rows_few, counted_words}
+-- `split_test` refuses the call, or counts by the words of its page. Assumes nothing.
+use mathlib.Core.Path.{ap, ◌∙◌}
+use Prim.Native.Nat.{ℕ}
+use Rattle.words.proofs.Lent.{test_page, lent_split}
+use Rattle.routes.proofs.SplitAccepted.{refused_test, refused_many, counted_splits, many_words}
 use Rattle.routes.proofs.split.split_test.Goals as goal
 
-pub returns-then-no-ne0 : goal.returns-then-no-ne0
-unfolding uncounted
-returns-then-no-ne0 c =
+pub returns-in_err-check_test : goal.returns-in_err-check_test
+returns-in_err-check_test c =
     let a = c.args in
-    refused_found a.page.now a.flags a.set _ c.test_no-no.ensures c.if-no-ne0.true
+    refused_test a.page.now a.flags a.set _ _ c.from_residual.ensures.1 c.in_err-check_test.ensures
 
 pub returns-then-too_many : goal.returns-then-too_many
-unfolding uncounted
 returns-then-too_many c =
     let a = c.args in
-    refused_many a.page.now a.flags a.set c.test_no-no.result c.test_no-no.ensures c.if-no-ne0.false c.row_total-n.result
-    c.row_words-rows.result c.row_total-n.ensures.0 c.row_words-rows.ensures.1 c.too_many.result c.too_many.ensures c.if-too_many.true
-
-pub split_count-count-requires : goal.split_count-count-requires
-split_count-count-requires c =
-    let a = c.args in (
-      omega (arith, words_many c.row_total-n.result c.row_words-rows.result (omega arith), c.row_total-n.ensures.1),
-      rows_few a.page.now a.flags a.set c.test_no-no.result c.test_no-no.ensures c.if-no-ne0.false c.row_total-n.result
-          c.row_words-rows.result c.row_total-n.ensures.0 c.row_words-rows.ensures.1 c.too_many.result c.too_many.ensures
-          c.if-too_many.false,
-    )
+    let z = c.in_ok-check_test.ensures in
+    let many = many_words a.page.now a.flags a.set z _ (c.deref.ensures.0 ∙ c.row_words-rows.ensures) _ c.too_many.ensures in
+    refused_many a.page.now a.flags a.set z _ many c.if-too_many.true
 
 pub returns : goal.returns
-unfolding counted
 returns c =
     let a = c.args in
-    counted_words a.page.now a.flags a.set c.test_no-no.result c.test_no-no.ensures c.if-no-ne0.false c.row_total-n.result
-    c.row_words-rows.result c.row_total-n.ensures.0 c.row_words-rows.ensures.1 c.too_many.result c.too_many.ensures c.if-too_many.false
-    c.pair_total-q.result c.pair_words-pairs.result c.pair_total-q.ensures.0 c.pair_words-pairs.ensures.1 c.split_count-count.result c.split_count-count.ensures
+    let z = c.in_ok-check_test.ensures in
+    let many = many_words a.page.now a.flags a.set z _ (c.deref.ensures.0 ∙ c.row_words-rows.ensures) _ c.too_many.ensures in
+    let e = lent_split a.page.now (test_page _ _ _ z) _ (c.deref-2.ensures.0 ∙ c.row_words-rows.ensures) _ (c.deref-3.ensures.0 ∙ c.pair_words-pairs.ensures) a.flags in
+    counted_splits a.page.now a.flags a.set z _ many c.if-too_many.false _ (c.split_count.ensures ∙ ap (λ (f : ℕ → ℕ). f a.set) e)
