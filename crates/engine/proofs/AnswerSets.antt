@@ -1,7 +1,7 @@
 -- On an accepted page the words have the answer sets of the page and no others: an answer set holds only raised atoms and head atoms, which are
 -- atoms of the page. So the lists and the pick of the words are those of the page. Assumes nothing.
 use mathlib.Core.Path.{◌≡◌, refl, ap, ◌∙◌}
-use mathlib.Core.Bool.{Bool, true}
+use mathlib.Core.Bool.{Bool}
 use mathlib.Core.Logic.{⊎_elim}
 use mathlib.Core.List.Memᴰ
 use mathlib.Core.List.{List, [], ◌∷◌, Memᴰ}
@@ -10,7 +10,7 @@ use native.Mathlib.Nat.{lt_of_le_of_lt}
 use lib.Pow.{pow_mono}
 use lib.Bits.{or_lt}
 use lib.Dec.{T}
-use lib.ListN.{length, take}
+use lib.ListN.{length}
 use lib.Seq.{take_all}
 use Rattle.atoms.specs.Atoms.{union}
 use Rattle.atoms.proofs.Bits.{inside_le}
@@ -26,14 +26,12 @@ use Rattle.page.specs.Refusals.{flag_no}
 use Rattle.page.proofs.Accepted.{ranges}
 use Rattle.page.proofs.AcceptedAtoms.{AtomsBelow, rows_below, flag_page, flags_below}
 use Rattle.words.proofs.Sets.{set_below}
-use Rattle.words.specs.Coded.{program_in, row_total, pair_total, row_words, pair_words}
-use Rattle.words.proofs.Lent.{words_most, lent_preferred, lent_answer}
+use Rattle.words.specs.Coded.{program_in, row_words, pair_words}
+use Rattle.words.proofs.Lent.{lent_preferred, lent_answer}
 use Rattle.lanes.specs.Sets.{program_of, wanted}
 use Rattle.lanes.proofs.Kept.{keep_short}
-use Rattle.engine.specs.Calls.{sets_of}
-use Rattle.engine.specs.Lists.{is_best}
-use Rattle.engine.specs.declared.list.Which.{Which}
-use Rattle.engine.specs.declared.list.Which.TheVariants.{All, Best}
+use Rattle.lanes.specs.declared.sets.Which.{Which}
+use Rattle.lanes.specs.declared.sets.Which.TheVariants.{All, Best}
 
 -- ---- the head atoms are atoms of the page where each row's are
 heads_below : (n : ℕ) (P : List Rule) → ((r : Rule) → Memᴰ r P → AtomsBelow n r.head) → AtomsBelow n (head_atoms P)
@@ -69,8 +67,8 @@ module _ (page : List ℕ) (flags : ℕ) (w : flags < 2 ^ 16) (h : flag_no page 
       unfolding best_sets
       same_best = ap (λ (f : ℕ → ℕ → Bool). best_of f (answer_sets p)) ep ∙ ap (best_of (preferred (program page flags))) same_sets
 
-      pub same_wanted : (which : Which) → wanted (is_best which) p ≡ sets_of which (program page flags)
-      unfolding wanted sets_of is_best
+      pub same_wanted : (which : Which) → wanted which p ≡ wanted which (program page flags)
+      unfolding wanted
       same_wanted All = same_sets
       same_wanted Best = same_best
 
@@ -79,25 +77,21 @@ no_pairs : (rows pairs : List ℕ) (flags : ℕ) → preferred (program_in rows 
 unfolding preferred rules program_in
 no_pairs rows pairs flags = refl
 
--- ---- in the words of the code: what is made of an accepted page, one thing after the other, and lent to the lists
+-- ---- in the words of the code: those of an accepted page, lent to the lists
 module _ (page : List ℕ) (flags : ℕ) (w : flags < 2 ^ 16) (h : flag_no page flags ≡ 0)
-    (n : ℕ) (rows : List ℕ) (en : (n ≡ row_total page) × (n ≤ 32)) (er : (length rows ≡ 32) × (take (row_total page) rows ≡ row_words page))
-    (q : ℕ) (pairs : List ℕ) (eq : q ≡ pair_total page) (ep : take (pair_total page) pairs ≡ pair_words page) where
-  made : Program
-  made = program_of (take n rows) (take q pairs) flags
+    (rows : List ℕ) (er : rows ≡ row_words page) (few : length rows ≤ 32) (pairs : List ℕ) (ep : pairs ≡ pair_words page) where
+  whole : program_of rows pairs flags ≡ program_in rows pairs flags
+  unfolding program_of
+  whole = ap (λ (l : List ℕ). program_in l pairs flags) (take_all 32 rows few)
 
-  whole : made ≡ program_in (take n rows) (take q pairs) flags
-  unfolding program_of made
-  whole = ap (λ (l : List ℕ). program_in l (take q pairs) flags) (take_all 32 (take n rows) (words_most n 32 rows (rw er.0 en.1) en.1))
-
-  pub made_sets : (which : Which) (best : Bool) → best ≡ is_best which → wanted best (program_of (take n rows) (take q pairs) flags) ≡ sets_of which (program page flags)
-  unfolding program_in made
-  made_sets which best b =
+  pub made_sets : (which : Which) → wanted which (program_of rows pairs flags) ≡ wanted which (program page flags)
+  unfolding program_in
+  made_sets which =
       let g = flag_page page flags h in
-      ap (λ (b : Bool). wanted b made) b ∙ ap (wanted (is_best which)) whole
-      ∙ same_wanted page flags w h (program_in (take n rows) (take q pairs) flags) refl (lent_answer page g n rows en.0 er.1 q pairs eq ep flags)
-      (no_pairs (take n rows) (take q pairs) flags ∙ lent_preferred page g n rows en.0 er.1 flags) which
+      ap (wanted which) whole
+      ∙ same_wanted page flags w h (program_in rows pairs flags) refl (lent_answer page g rows er pairs ep flags)
+      (no_pairs rows pairs flags ∙ lent_preferred page g rows er flags) which
 
-  pub made_pick : pick (program_of (take n rows) (take q pairs) flags) ≡ pick (program page flags)
-  unfolding pick wanted sets_of is_best
-  made_pick = ap first_of (made_sets Best true refl)
+  pub made_pick : pick (program_of rows pairs flags) ≡ pick (program page flags)
+  unfolding pick wanted
+  made_pick = ap first_of (made_sets Best)

@@ -1,97 +1,91 @@
--- The call that compares, told by what its code finds: the number, one condition after the other, and the answer by that number. And what the
--- side says: never is each of two sets preferred to the other, so +1 says that the first is, −1 that the second is, and the sets in turned
--- order get the other sign. Assumes nothing.
-use mathlib.Core.Path.{◌≡◌, refl, sym, ap, ◌∙◌}
+-- The statement of the call that compares, for each of its ways out. And what the side says: never is each of two sets preferred to the other, so
+-- +1 says that the first is, −1 that the second is, and the sets in turned order get the other sign. Assumes nothing.
+use Rattle.std.specs.Prelude.{Result, Ok, Err}
+use mathlib.Core.Path.{◌≡◌, refl, ap, ◌∙◌}
 use mathlib.Core.Bool.{Bool, true, false, ◌&&◌, not, cond}
 use mathlib.Core.Logic.{◌↔◌}
-use mathlib.Core.List.{List, [], ◌∷◌, ◌++◌, append_assoc}
+use mathlib.Core.List.{List, [], ◌∷◌, ◌++◌}
 use Prim.Native.Nat.{ℕ}
 use native.Mathlib.Omega.{arith}
-use mir.Syntax.{w8}
-use mir.Val.{to_z, of_z}
 use lib.Dec.{T}
-use lib.IntN.{ℤ, pos, negsuc, neg_ℤ}
-use borrow.Author.Tests.{ne_eqb}
+use lib.IntN.{pos, negsuc, neg_ℤ}
 use Rattle.lpod.specs.Lists.{every}
 use Rattle.lpod.specs.Rule.{Program}
 use Rattle.lpod.specs.Answer.{answer}
 use Rattle.lpod.specs.Preferred.{preferred, compare}
 use Rattle.lpod.proofs.InclusionOrder.{preferred_irreflexive, preferred_transitive}
 use Rattle.page.specs.Program.{program}
-use Rattle.page.specs.Refusals.{Refusal, refuse, first_that, numbered, set_refusals, test_refusals, page_no, test_no, set_out}
-use Rattle.page.proofs.Refusals.{test_numbered, given_append}
-use Rattle.words.proofs.Lent.{test_page}
-use Rattle.engine.specs.Compare.{compare_refusals, compare_no, compared}
-use Rattle.engine.specs.declared.compare.Compared.{Compared}
-use Rattle.engine.proofs.Given.{numbered_append}
-use Rattle.engine.proofs.Refused.{refused_first, refused_later}
+use Rattle.page.specs.Refusals as lists
+use Rattle.page.specs.Refusals.{refuse, first_that, numbered, set_refusals, test_refusals, page_no, set_no, test_no}
+use Rattle.page.specs.Answers.{number, no}
+use Rattle.page.specs.declared.refusal.Refusal.{Refusal}
+use Rattle.page.specs.declared.refusal.Refusal.TheVariants.{NotAnAnswerSet}
+use Rattle.page.proofs.Refusals.{test_numbered}
+use Rattle.page.proofs.Refusing.{first_stands, then_rest, refused_here, given}
+use Rattle.words.specs.Coded.{program_in, row_words, pair_words}
+use Rattle.words.proofs.Lent.{test_page, lent_answer, lent_preferred}
+use Rattle.engine.specs.Compare.{compare_refusals, compare_no, side_number, sided, CompareSays}
+use Rattle.engine.specs.declared.compare.Side.{Side}
+use Rattle.engine.specs.declared.compare.Side.TheVariants.{First, Second, Neither}
 
--- ---- the number: that of the page, the flag word and both sets, one condition after the other
-module _ (page : List ℕ) (flags M N n : ℕ) (e : n ≡ test_no page flags M) where
-  pub sets_tested : (n ≡ 0 → ⊥) → n ≡ first_that (test_refusals page flags M ++ set_refusals page N)
-  unfolding test_no
-  sets_tested z = refused_first (test_refusals page flags M) (set_refusals page N) (test_numbered page flags M) n e z
+-- the comparison goes by the relation alone
+pub compare_by : (p q : Program) (M N : ℕ) → preferred p ≡ preferred q → compare p M N ≡ compare q M N
+unfolding compare
+compare_by p q M N e = ap (λ (over : ℕ → ℕ → Bool). cond (over M N) (pos 1) (cond (over N M) (negsuc 0) (pos 0))) e
 
-  module _ (z : n ≡ 0) (o : Bool) (eo : o ≡ set_out page N) where
-    pub sets_out : cond o 9 0 ≡ first_that (test_refusals page flags M ++ set_refusals page N)
-    unfolding test_no first_that set_refusals
-    sets_out = sym (refused_later (test_refusals page flags M) (set_refusals page N) (test_numbered page flags M) n e z ∙ rw (← eo))
+-- the numbers of a set's refusals are above 0
+set_numbered : (page : List ℕ) (set : ℕ) → T (numbered (set_refusals page set))
+unfolding numbered every set_refusals
+set_numbered page set = tt
 
--- then 13, where one of them is no answer set
-module _ (page : List ℕ) (flags M N n : ℕ) (e : n ≡ first_that (test_refusals page flags M ++ set_refusals page N)) where
-  last : List Refusal
+-- ---- the ways out of the call
+module _ (page : List ℕ) (flags M N : ℕ) where
+  last : List lists.Refusal
   last = refuse 13 (not (answer (program page flags) M && answer (program page flags) N)) ∷ []
 
-  one_list : compare_no page flags M N ≡ first_that ((test_refusals page flags M ++ set_refusals page N) ++ last)
-  unfolding compare_no compare_refusals last
-  one_list = ap first_that (sym (append_assoc (test_refusals page flags M) (set_refusals page N) last))
+  refused_by : (e : Refusal) → number e ≡ compare_no page flags M N → CompareSays page flags M N (Err e)
+  refused_by e = refused_here (pos 0) (compare (program page flags) M N) (compare_no page flags M N) e
 
-  both_numbered : T (numbered (test_refusals page flags M ++ set_refusals page N))
-  unfolding numbered set_refusals every
-  both_numbered = numbered_append (test_refusals page flags M) (set_refusals page N) (test_numbered page flags M) tt
+  -- the page, the flag word or the first set is refused
+  pub compare_tested : (e : Refusal) → number e ≡ test_no page flags M → CompareSays page flags M N (Err e)
+  unfolding compare_no compare_refusals test_no last
+  compare_tested e q = refused_by e (first_stands (test_refusals page flags M) (set_refusals page N ++ last) (test_numbered page flags M) e q)
 
-  -- it is 0 only where the page is accepted
-  pub sets_page : n ≡ 0 → page_no page ≡ 0
-  unfolding test_no
-  sets_page z = test_page page flags M _ refl (given_append (test_refusals page flags M) (set_refusals page N) (test_numbered page flags M) (sym e ∙ z)).0
+  module _ (z : 0 ≡ test_no page flags M) where
+    after_first : (n : ℕ) → n ≡ first_that (set_refusals page N ++ last) → n ≡ compare_no page flags M N
+    unfolding compare_no compare_refusals test_no last
+    after_first n = then_rest (test_refusals page flags M) (set_refusals page N ++ last) (test_numbered page flags M) n z
 
-  pub compare_early : (n ≡ 0 → ⊥) → n ≡ compare_no page flags M N
-  compare_early z = refused_first (test_refusals page flags M ++ set_refusals page N) last both_numbered n e z ∙ sym one_list
+    -- the second set is
+    pub compare_second_tested : (e : Refusal) → number e ≡ set_no page N → CompareSays page flags M N (Err e)
+    unfolding set_no
+    compare_second_tested e q = refused_by e (after_first (number e) (first_stands (set_refusals page N) last (set_numbered page N) e q))
 
-  module _ (z : n ≡ 0) (b : Bool) (eb : b ≡ (answer (program page flags) M && answer (program page flags) N)) where
-    from_last : compare_no page flags M N ≡ first_that last
-    from_last = one_list ∙ refused_later (test_refusals page flags M ++ set_refusals page N) last both_numbered n e z
+    -- one of them is no answer set, or they are compared: as it is found of the words of an accepted page
+    module _ (y : 0 ≡ set_no page N) (rows : List ℕ) (er : rows ≡ row_words page) (pairs : List ℕ) (ep : pairs ≡ pair_words page) (b : Bool)
+        (eb : b ≡ (answer (program_in rows pairs flags) M && answer (program_in rows pairs flags) N)) where
+      accepted : page_no page ≡ 0
+      accepted = test_page page flags M z
 
-    pub compare_no_answer : b ≡ false → 13 ≡ compare_no page flags M N
-    unfolding first_that last
-    compare_no_answer t = sym (from_last ∙ rw (← eb, t))
+      from_last : (n : ℕ) → n ≡ first_that last → n ≡ compare_no page flags M N
+      unfolding set_no
+      from_last n q = after_first n (then_rest (set_refusals page N) last (set_numbered page N) n y q)
 
-    pub compare_none : b ≡ true → 0 ≡ compare_no page flags M N
-    unfolding first_that last
-    compare_none t = sym (from_last ∙ rw (← eb, t))
+      told : b ≡ (answer (program page flags) M && answer (program page flags) N)
+      told = eb ∙ ap (λ (q : ℕ → Bool). q M && q N) (lent_answer page accepted rows er pairs ep flags)
 
--- ---- the answer
-module _ (n k : ℕ) (side : ℤ) (e : k ≡ n) where
-  pub compare_refused : (k ≡ 0 → ⊥) → ◌≡◌ {A = Compared} (record { no = k; side = pos 0 }) (compared n side)
-  unfolding compared
-  compare_refused z = rw (← e, ne_eqb k 0 z)
+      pub compare_no_answer : b ≡ false → CompareSays page flags M N (Err NotAnAnswerSet)
+      unfolding first_that last
+      compare_no_answer t = refused_by NotAnAnswerSet (from_last 13 (rw (← told, t)))
 
-  pub compare_given : k ≡ 0 → (y : ℤ) → y ≡ side → ◌≡◌ {A = Compared} (record { no = 0; side = y }) (compared n side)
-  unfolding compared
-  compare_given z y ey = rw (← e, z, ey)
+      pub compare_given : b ≡ true → (s : Side) → side_number s ≡ compare (program_in rows [] flags) M N → CompareSays page flags M N (Ok s)
+      unfolding first_that last
+      compare_given t s es =
+          given (pos 0) (compare (program page flags) M N) (compare_no page flags M N) (from_last 0 (rw (← told, t))) (side_number s)
+          (es ∙ compare_by (program_in rows [] flags) (program page flags) M N (lent_preferred page accepted rows er flags))
 
 -- ---- what the side says
 module _ (p : Program) (M N : ℕ) where
-  -- as eight bits it reads back as itself
-  pub side_read : (z : ℤ) → z ≡ compare p M N → to_z w8 (of_z w8 z) ≡ compare p M N
-  unfolding compare
-  side_read z e = ap (λ (z : ℤ). to_z w8 (of_z w8 z)) e ∙ go (preferred p M N) (preferred p N M)
-    where
-      go : (a b : Bool) → to_z w8 (of_z w8 (cond a (pos 1) (cond b (negsuc 0) (pos 0)))) ≡ cond a (pos 1) (cond b (negsuc 0) (pos 0))
-      go true b = refl
-      go false true = refl
-      go false false = refl
-
   pub never_both : T (preferred p M N) → T (preferred p N M) → ⊥
   never_both a b = preferred_irreflexive p M (preferred_transitive p M N M a b)
 
@@ -124,11 +118,6 @@ module _ (p : Program) (M N : ℕ) where
       go false true f = ((λ e. tt), (λ t. refl))
       go false false f = ((λ e. let z : ◌≡◌ {A = ℕ} 0 1 = cc in omega arith), (λ t. absurd t))
 
--- the comparison goes by the relation alone
-pub compare_by : (p q : Program) (M N : ℕ) → preferred p ≡ preferred q → compare p M N ≡ compare q M N
-unfolding compare
-compare_by p q M N e = ap (λ (over : ℕ → ℕ → Bool). cond (over M N) (pos 1) (cond (over N M) (negsuc 0) (pos 0))) e
-
 -- equal sets compare 0
 pub compare_itself : (p : Program) (M : ℕ) → compare p M M ≡ pos 0
 unfolding compare
@@ -137,3 +126,25 @@ compare_itself p M = go (preferred p M M) (preferred_irreflexive p M)
     go : (a : Bool) → (T a → ⊥) → cond a (pos 1) (cond a (negsuc 0) (pos 0)) ≡ pos 0
     go true f = absurd (f tt)
     go false f = refl
+
+-- ---- the number of a side settles it
+pub one_side : (s t : Side) → side_number s ≡ side_number t → s ≡ t
+one_side First First e = refl
+one_side First Second e = absurd (cc)
+one_side First Neither e = let z : ◌≡◌ {A = ℕ} 1 0 = cc in absurd (omega arith)
+one_side Second First e = absurd (cc)
+one_side Second Second e = refl
+one_side Second Neither e = absurd (cc)
+one_side Neither First e = let z : ◌≡◌ {A = ℕ} 0 1 = cc in absurd (omega arith)
+one_side Neither Second e = absurd (cc)
+one_side Neither Neither e = refl
+
+pub sided_no : (r : Result Side Refusal) → no (sided r) ≡ no r
+sided_no (Ok s) = refl
+sided_no (Err e) = refl
+
+pub one_sided : (r q : Result Side Refusal) → sided r ≡ sided q → r ≡ q
+one_sided (Ok s) (Ok t) e = ap Ok (one_side s t cc)
+one_sided (Ok s) (Err f) e = absurd cc
+one_sided (Err d) (Ok t) e = absurd cc
+one_sided (Err d) (Err f) e = ap Err cc

@@ -1,11 +1,16 @@
 -- For every public call of atoms, lpod, page, words, routes, lanes and engine: any two answers that its statement allows are equal, and so is the
 -- lent memory afterwards. Each statement is one equation or two, so this is short; it would fail for a statement that left something open.
 -- There is no exception. Assumes nothing.
-use mathlib.Core.Path.{◌≡◌, sym, ◌∙◌}
-use mathlib.Core.Bool.{Bool}
+use Rattle.std.specs.Prelude.{Result, Ok, Err, Some, None}
+use Rattle.std.specs.Prelude as rust
+use mathlib.Core.Path.{◌≡◌, refl, sym, ap, ◌∙◌}
+use mathlib.Core.Bool.{Bool, false}
 use mathlib.Core.List.{List}
-use Prim.Native.Nat.{ℕ, ◌-◌, ◌≤◌}
-use lib.ListN.{length, get_or, take, drop, replicate, take-append-drop}
+use mathlib.Core.Option.{none-ne-some, some-injective}
+use Prim.Native.Nat.{ℕ, ◌≤◌}
+use native.Mathlib.Omega.{arith}
+use lib.IntN.{pos}
+use lib.ListN.{length, get_or}
 use Rattle.atoms.specs.Atoms as sets
 use Rattle.lpod.specs.Rule.{most_atoms}
 use Rattle.lpod.specs.Satisfied.{all_in, some_in, body_holds, satisfies, satisfies_all, no_pair}
@@ -16,30 +21,27 @@ use Rattle.lpod.specs.HereThere.{here_there}
 use Rattle.lpod.specs.Degree.{place, degree}
 use Rattle.page.specs.Fields as fields
 use Rattle.page.specs.Refusals as refusals
+use Rattle.page.specs.Answers.{number, no, Answered}
+use Rattle.page.specs.declared.refusal.Refusal.{Refusal}
+use Rattle.page.proofs.Refusing.{above_zero, one_refusal, one_answered}
 use Rattle.page.specs.Letter.{letter_of}
 use Rattle.page.specs.Program.{literal_place}
 use Rattle.page.specs.Rows as rows
 use Rattle.page.specs.Reader.{said, row_said, number_after}
 use Rattle.page.specs.declared.rows.Row.{Row}
-use Rattle.page.specs.declared.reader.Step.{Step}
 use Rattle.page.proofs.ReaderSteps as reader
 use Rattle.routes.specs.Tests.{ReductSays, HereThereSays}
-use Rattle.routes.specs.Split.{SplitSays}
+use Rattle.routes.specs.Split.{Split, with_yes, SplitSays}
 use Rattle.routes.specs.Rounds.{RoundsSays}
-use Rattle.routes.specs.declared.Verdict.{Verdict}
-use Rattle.routes.specs.declared.reduct.Counted.{Counted}
-use Rattle.routes.specs.declared.split.Split.{Split}
 use Rattle.words.specs.Coded as coded
 use Rattle.lpod.specs.Best as bests
-use Rattle.lanes.specs.Sets.{FoundSays, program_of, number_of}
+use Rattle.lanes.specs.Sets.{FoundSays, program_of, found}
 use Rattle.engine.specs.Calls.{SetsSay, ListSays, BestSays, PickSays}
 use Rattle.engine.specs.Rank.{PreferredSays}
 use Rattle.engine.specs.Degrees.{DegreesSays}
-use Rattle.engine.specs.Compare.{CompareSays}
-use Rattle.engine.specs.declared.list.Listed.{Listed}
-use Rattle.engine.specs.declared.pick.Picked.{Picked}
-use Rattle.engine.specs.declared.degrees.Graded.{Graded}
-use Rattle.engine.specs.declared.compare.Compared.{Compared}
+use Rattle.engine.specs.Compare.{sided, CompareSays}
+use Rattle.engine.specs.declared.compare.Side.{Side}
+use Rattle.engine.proofs.Comparing.{one_sided}
 
 -- two values that are both the defined one are one
 pub one_answer : {A : Type 0} {x y z : A} → x ≡ z → y ≡ z → x ≡ y
@@ -126,21 +128,28 @@ literals_of_lem page r x y = one_answer
 pub counts_out_lem : (atoms rows literals pairs : ℕ) (x y : Bool) → x ≡ refusals.counts_out atoms rows literals pairs → y ≡ refusals.counts_out atoms rows literals pairs → x ≡ y
 counts_out_lem atoms rows literals pairs x y = one_answer
 
--- page::accept
-pub page_no_lem : (page : List ℕ) (x y : ℕ) → x ≡ refusals.page_no page → y ≡ refusals.page_no page → x ≡ y
-page_no_lem page x y = one_answer
+-- page::refusal
+pub refusal_number : (e : Refusal) (x y : ℕ) → x ≡ number e → y ≡ number e → x ≡ y
+refusal_number e x y = one_answer
 
-pub flags_out_lem : (page : List ℕ) (flags : ℕ) (x y : Bool) → x ≡ refusals.flags_out page flags → y ≡ refusals.flags_out page flags → x ≡ y
-flags_out_lem page flags x y = one_answer
+-- page::accept: an answer with no value is settled by its number
+one_check : (n : ℕ) (x y : Result (Unit {0}) Refusal) → no x ≡ n → no y ≡ n → x ≡ y
+one_check n (Ok a) (Ok b) p q = refl
+one_check n (Ok a) (Err f) p q = absurd (omega (arith, above_zero f, p, q))
+one_check n (Err e) (Ok b) p q = absurd (omega (arith, above_zero e, p, q))
+one_check n (Err e) (Err f) p q = ap Err (one_refusal e f (one_answer p q))
 
-pub set_out : (page : List ℕ) (set : ℕ) (x y : Bool) → x ≡ refusals.set_out page set → y ≡ refusals.set_out page set → x ≡ y
-set_out page set x y = one_answer
+pub check_page : (page : List ℕ) (x y : Result (Unit {0}) Refusal) → no x ≡ refusals.page_no page → no y ≡ refusals.page_no page → x ≡ y
+check_page page = one_check (refusals.page_no page)
 
-pub flag_no_lem : (page : List ℕ) (flags : ℕ) (x y : ℕ) → x ≡ refusals.flag_no page flags → y ≡ refusals.flag_no page flags → x ≡ y
-flag_no_lem page flags x y = one_answer
+pub check_set : (page : List ℕ) (set : ℕ) (x y : Result (Unit {0}) Refusal) → no x ≡ refusals.set_no page set → no y ≡ refusals.set_no page set → x ≡ y
+check_set page set = one_check (refusals.set_no page set)
 
-pub test_no_lem : (page : List ℕ) (flags set : ℕ) (x y : ℕ) → x ≡ refusals.test_no page flags set → y ≡ refusals.test_no page flags set → x ≡ y
-test_no_lem page flags set x y = one_answer
+pub check_flags : (page : List ℕ) (flags : ℕ) (x y : Result (Unit {0}) Refusal) → no x ≡ refusals.flag_no page flags → no y ≡ refusals.flag_no page flags → x ≡ y
+check_flags page flags = one_check (refusals.flag_no page flags)
+
+pub check_test : (page : List ℕ) (flags set : ℕ) (x y : Result (Unit {0}) Refusal) → no x ≡ refusals.test_no page flags set → no y ≡ refusals.test_no page flags set → x ≡ y
+check_test page flags set = one_check (refusals.test_no page flags set)
 
 -- page::letter
 pub letter : (number : ℕ) (x y : ℕ) → x ≡ letter_of number → y ≡ letter_of number → x ≡ y
@@ -166,24 +175,12 @@ row_total_lem page x y p q = one_answer p.0 q.0
 pub pair_total_lem : (page : List ℕ) (x y : ℕ) → (x ≡ coded.pair_total page) × (x ≤ 8) → (y ≡ coded.pair_total page) × (y ≤ 8) → x ≡ y
 pair_total_lem page x y p q = one_answer p.0 q.0
 
--- these words first, and those after them
-parted : (n t : ℕ) (l m x y : List ℕ) → (length x ≡ n) × (take t x ≡ l) × (drop t x ≡ m) → (length y ≡ n) × (take t y ≡ l) × (drop t y ≡ m) → x ≡ y
-parted n t l m x y p q = sym (take-append-drop t x) ∙ rw (p.1, p.2, ← q.1, ← q.2) (take-append-drop t y)
+-- a vector by its entries
+pub row_words : (page x y : List ℕ) → x ≡ coded.row_words page → y ≡ coded.row_words page → x ≡ y
+row_words page x y = one_answer
 
-pub row_words : (page x y : List ℕ)
-    → (length x ≡ 32) × (take (coded.row_total page) x ≡ coded.row_words page) × (drop (coded.row_total page) x ≡ replicate (32 - coded.row_total page) 0)
-    → (length y ≡ 32) × (take (coded.row_total page) y ≡ coded.row_words page) × (drop (coded.row_total page) y ≡ replicate (32 - coded.row_total page) 0) → x ≡ y
-row_words page x y = parted 32 (coded.row_total page) (coded.row_words page) (replicate (32 - coded.row_total page) 0) x y
-
-pub pair_words_lem : (page x y : List ℕ)
-    → (length x ≡ 8) × (take (coded.pair_total page) x ≡ coded.pair_words page) × (drop (coded.pair_total page) x ≡ replicate (8 - coded.pair_total page) 0)
-    → (length y ≡ 8) × (take (coded.pair_total page) y ≡ coded.pair_words page) × (drop (coded.pair_total page) y ≡ replicate (8 - coded.pair_total page) 0) → x ≡ y
-pair_words_lem page x y = parted 8 (coded.pair_total page) (coded.pair_words page) (replicate (8 - coded.pair_total page) 0) x y
-
-pub fill_rows : (page before x y : List ℕ)
-    → (length x ≡ 32) × (take (coded.row_total page) x ≡ coded.row_words page) × (drop (coded.row_total page) x ≡ drop (coded.row_total page) before)
-    → (length y ≡ 32) × (take (coded.row_total page) y ≡ coded.row_words page) × (drop (coded.row_total page) y ≡ drop (coded.row_total page) before) → x ≡ y
-fill_rows page before x y = parted 32 (coded.row_total page) (coded.row_words page) (drop (coded.row_total page) before) x y
+pub pair_words_lem : (page x y : List ℕ) → x ≡ coded.pair_words page → y ≡ coded.pair_words page → x ≡ y
+pair_words_lem page x y = one_answer
 
 -- words::row
 pub pos_in : (row s : ℕ) (x y : Bool) → x ≡ all_in (coded.rule_in row).pos s → y ≡ all_in (coded.rule_in row).pos s → x ≡ y
@@ -235,8 +232,15 @@ is_here_there words pairs flags set x y = one_answer
 pub sets_of_words : (l out : List ℕ) (x y : ℕ) (after later : List ℕ) → FoundSays l out x after → FoundSays l out y later → (x ≡ y) × (after ≡ later)
 sets_of_words l out x y after later p q = (one_answer p.0 q.0, one_answer p.1 q.1)
 
-pub pick_of_words : (words pairs : List ℕ) (flags x y : ℕ) → x ≡ number_of (bests.pick (program_of words pairs flags)) → y ≡ number_of (bests.pick (program_of words pairs flags)) → x ≡ y
-pick_of_words words pairs flags x y = one_answer
+pub pick_of_words : (words pairs : List ℕ) (flags : ℕ) (x y : rust.Option ℕ) → found x ≡ bests.pick (program_of words pairs flags)
+    → found y ≡ bests.pick (program_of words pairs flags) → x ≡ y
+pick_of_words words pairs flags x y p q = go x y (one_answer p q)
+  where
+    go : (x y : rust.Option ℕ) → found x ≡ found y → x ≡ y
+    go None None e = refl
+    go None (Some t) e = absurd (none-ne-some t e)
+    go (Some s) None e = absurd (none-ne-some s (sym e))
+    go (Some s) (Some t) e = ap Some (some-injective s t e)
 
 -- engine::rank
 pub preferred_set : (words : List ℕ) (flags m n : ℕ) (x y : Bool) → PreferredSays words flags m n x → PreferredSays words flags m n y → x ≡ y
@@ -244,51 +248,54 @@ preferred_set words flags m n x y = one_answer
 
 -- ---- the row reader
 -- a row by its number
-pub row_at : (page : List ℕ) (n : ℕ) (x y : Step) → said x ≡ row_said page n → said y ≡ row_said page n → x ≡ y
+pub row_at : (page : List ℕ) (n : ℕ) (x y : rust.Option Row) → said x ≡ row_said page n → said y ≡ row_said page n → x ≡ y
 row_at page n x y p q = reader.one_answer x y (one_answer p q)
 
--- what a reader says where it stands is the same statement; an opening and a move give a number or two and the slice that was lent, each by an
+-- what a reader says where it stands is the same statement; an opening and a move give an answer or a number, and the slice that was lent, each by an
 -- equation, whatever a slice is
-pub opened : {S : Type 0} (page : List ℕ) (lent : S) (m n : ℕ) (s t : S) (i j : ℕ) → (m ≡ refusals.page_no page) × (s ≡ lent) × (i ≡ 0)
-    → (n ≡ refusals.page_no page) × (t ≡ lent) × (j ≡ 0) → (m ≡ n) × (s ≡ t) × (i ≡ j)
-opened page lent m n s t i j p q = (one_answer p.0 q.0, one_answer p.1 q.1, one_answer p.2 q.2)
+pub opened : {S : Type 0} (page : List ℕ) (lent : S) (m n : Result (Unit {0}) Refusal) (s t : S) (i j : ℕ)
+    → (no m ≡ refusals.page_no page) × (s ≡ lent) × (i ≡ 0) → (no n ≡ refusals.page_no page) × (t ≡ lent) × (j ≡ 0) → (m ≡ n) × (s ≡ t) × (i ≡ j)
+opened page lent m n s t i j p q = (one_check (refusals.page_no page) m n p.0 q.0, one_answer p.1 q.1, one_answer p.2 q.2)
 
 pub moved : {S : Type 0} (page : List ℕ) (lent : S) (at : ℕ) (s t : S) (i j : ℕ) → (s ≡ lent) × (i ≡ number_after page at) → (t ≡ lent) × (j ≡ number_after page at)
     → (s ≡ t) × (i ≡ j)
 moved page lent at s t i j p q = (one_answer p.0 q.0, one_answer p.1 q.1)
 
 -- ---- the tests of one set
-pub reduct_test_lem : (page : List ℕ) (flags set : ℕ) (x y : Verdict) → ReductSays page flags set x → ReductSays page flags set y → x ≡ y
-reduct_test_lem page flags set x y = one_answer
+pub reduct_test_lem : (page : List ℕ) (flags set : ℕ) (x y : Result Bool Refusal) → ReductSays page flags set x → ReductSays page flags set y → x ≡ y
+reduct_test_lem page flags set x y p q = one_answered false x y (one_answer p q)
 
-pub here_there_test_lem : (page : List ℕ) (flags set : ℕ) (x y : Verdict) → HereThereSays page flags set x → HereThereSays page flags set y → x ≡ y
-here_there_test_lem page flags set x y = one_answer
+pub here_there_test_lem : (page : List ℕ) (flags set : ℕ) (x y : Result Bool Refusal) → HereThereSays page flags set x → HereThereSays page flags set y → x ≡ y
+here_there_test_lem page flags set x y p q = one_answered false x y (one_answer p q)
 
-pub split_test_lem : (page : List ℕ) (flags set : ℕ) (x y : Split) → SplitSays page flags set x → SplitSays page flags set y → x ≡ y
-split_test_lem page flags set x y = one_answer
+pub split_test_lem : (page : List ℕ) (flags set : ℕ) (x y : Result ℕ Refusal) → SplitSays page flags set x → SplitSays page flags set y → x ≡ y
+split_test_lem page flags set x y p q = one_answered 0 x y (one_split (one_answer p q))
+  where
+    one_split : {a b : Answered ℕ} → with_yes a ≡ with_yes b → a ≡ b
+    one_split e = ap (λ (s : Split). record { no = s.no; value = s.count }) e
 
-pub rounds : (page : List ℕ) (flags set : ℕ) (x y : Counted) → RoundsSays page flags set x → RoundsSays page flags set y → x ≡ y
-rounds page flags set x y = one_answer
+pub rounds : (page : List ℕ) (flags set : ℕ) (x y : Result ℕ Refusal) → RoundsSays page flags set x → RoundsSays page flags set y → x ≡ y
+rounds page flags set x y p q = one_answered 0 x y (one_answer p q)
 
 -- ---- the calls over all answer sets: the answer, and the lent slice afterwards
-pub sets_listed : (l page : List ℕ) (flags : ℕ) (out : List ℕ) (x y : Listed) (after later : List ℕ) → SetsSay l page flags out x after → SetsSay l page flags out y later
-    → (x ≡ y) × (after ≡ later)
-sets_listed l page flags out x y after later p q = (one_answer p.0 q.0, one_answer p.1 q.1)
+pub sets_listed : (l page : List ℕ) (flags : ℕ) (out : List ℕ) (x y : Result ℕ Refusal) (after later : List ℕ) → SetsSay l page flags out x after
+    → SetsSay l page flags out y later → (x ≡ y) × (after ≡ later)
+sets_listed l page flags out x y after later p q = (one_answered 0 x y (one_answer p.0 q.0), one_answer p.1 q.1)
 
-pub list : (page : List ℕ) (flags : ℕ) (out : List ℕ) (x y : Listed) (after later : List ℕ) → ListSays page flags out x after → ListSays page flags out y later
-    → (x ≡ y) × (after ≡ later)
-list page flags out x y after later p q = (one_answer p.0 q.0, one_answer p.1 q.1)
+pub list : (page : List ℕ) (flags : ℕ) (out : List ℕ) (x y : Result ℕ Refusal) (after later : List ℕ) → ListSays page flags out x after
+    → ListSays page flags out y later → (x ≡ y) × (after ≡ later)
+list page flags out x y after later p q = (one_answered 0 x y (one_answer p.0 q.0), one_answer p.1 q.1)
 
-pub best : (page : List ℕ) (flags : ℕ) (out : List ℕ) (x y : Listed) (after later : List ℕ) → BestSays page flags out x after → BestSays page flags out y later
-    → (x ≡ y) × (after ≡ later)
-best page flags out x y after later p q = (one_answer p.0 q.0, one_answer p.1 q.1)
+pub best : (page : List ℕ) (flags : ℕ) (out : List ℕ) (x y : Result ℕ Refusal) (after later : List ℕ) → BestSays page flags out x after
+    → BestSays page flags out y later → (x ≡ y) × (after ≡ later)
+best page flags out x y after later p q = (one_answered 0 x y (one_answer p.0 q.0), one_answer p.1 q.1)
 
-pub degrees : (page : List ℕ) (flags set : ℕ) (out after later : List ℕ) (x y : Graded) → DegreesSays page flags set out after x → DegreesSays page flags set out later y
-    → (x ≡ y) × (after ≡ later)
-degrees page flags set out after later x y p q = (one_answer p.0 q.0, one_answer p.1 q.1)
+pub degrees : (page : List ℕ) (flags set : ℕ) (out after later : List ℕ) (x y : Result ℕ Refusal) → DegreesSays page flags set out after x
+    → DegreesSays page flags set out later y → (x ≡ y) × (after ≡ later)
+degrees page flags set out after later x y p q = (one_answered 0 x y (one_answer p.0 q.0), one_answer p.1 q.1)
 
-pub compare : (page : List ℕ) (flags first second : ℕ) (x y : Compared) → CompareSays page flags first second x → CompareSays page flags first second y → x ≡ y
-compare page flags first second x y = one_answer
+pub compare : (page : List ℕ) (flags first second : ℕ) (x y : Result Side Refusal) → CompareSays page flags first second x → CompareSays page flags first second y → x ≡ y
+compare page flags first second x y p q = one_sided x y (one_answered (pos 0) (sided x) (sided y) (one_answer p q))
 
-pub pick : (page : List ℕ) (flags : ℕ) (x y : Picked) → PickSays page flags x → PickSays page flags y → x ≡ y
-pick page flags x y = one_answer
+pub pick : (page : List ℕ) (flags : ℕ) (x y : Result ℕ Refusal) → PickSays page flags x → PickSays page flags y → x ≡ y
+pick page flags x y p q = one_answered 0 x y (one_answer p q)

@@ -1,5 +1,6 @@
 -- The least degree that a rule has in one of two sets alone decides which of the sets is preferred. At a smaller degree the two collections
 -- are equal and at this one they are not, so no other degree can be the one that 000 Definition 6 asks for. Assumes nothing.
+use Rattle.std.specs.Prelude.{Option, Some, None}
 use mathlib.Core.Path.{◌≡◌, refl, sym, ap, ◌∙◌, subst}
 use mathlib.Core.Bool.{Bool, true, false, ◌&&◌, ◌||◌, not, cond}
 use mathlib.Core.Logic.{◌⊎◌, inl, inr, ⊎_elim}
@@ -22,7 +23,7 @@ use Rattle.lpod.proofs.Between.{raised_row, row_raised}
 use Rattle.lpod.proofs.InclusionOrder.{Within, Preferred, preferred_says}
 use Rattle.engine.specs.Rank.{rows_seen, raised_seen}
 use Rattle.engine.specs.declared.rank.Difference.{Difference}
-use Rattle.engine.proofs.LeastKept.{Side, Kept, kept_told, alone, rows_keep}
+use Rattle.engine.proofs.LeastKept.{Side, degree_of, in_first, in_second, Kept, kept_told, alone, rows_keep}
 
 -- ---- no rule has degree j in M alone: those of degree j in M are among those in N
 module _ (P : List Rule) (M N j : ℕ) where
@@ -112,73 +113,75 @@ raised_keeps f w M N =
     at_one M N b e = record { below = λ j l o. absurd (⊎_elim (λ z. omega arith) (λ h. omega arith) o); here = λ l. e; none = λ z. absurd (omega arith) }
 
     go : (a b : Bool) → alone (raised f) M N 1 ≡ a → alone (raised f) N M 1 ≡ b
-        → Kept (alone (raised f) M N) (alone (raised f) N M) (cond (a || b) (record { degree = 1; first = a; second = b }) (record { degree = 0; first = false; second = false }))
-    go true b ea eb = record { one = at_one M N true ea; other = at_one N M b eb; found = λ l. tt }
-    go false true ea eb = record { one = at_one M N false ea; other = at_one N M true eb; found = λ l. tt }
-    go false false ea eb = record { one = never M N ea; other = never N M eb; found = λ l. absurd (omega arith) }
+        → Kept (alone (raised f) M N) (alone (raised f) N M) (cond (a || b) (Some (record { degree = 1; first = a; second = b })) None)
+    go true b ea eb = record { one = at_one M N true ea; other = at_one N M b eb; found = λ l. tt; from_one = omega arith }
+    go false true ea eb = record { one = at_one M N false ea; other = at_one N M true eb; found = λ l. tt; from_one = omega arith }
+    go false false ea eb = record { one = never M N ea; other = never N M eb; found = λ l. absurd (omega arith); from_one = tt }
 
 -- ---- what is found at the end decides
-module _ (p : Program) (M N : ℕ) (f : Difference) (k : Kept (alone (rules p) M N) (alone (rules p) N M) f) where
-  decided : (f.first && not f.second) ≡ preferred p M N
-  decided = same_yes (f.first && not f.second) (preferred p M N) (λ t. (preferred_says p M N).1 (is_preferred t)) (λ t. was_found ((preferred_says p M N).0 t))
+module _ (p : Program) (M N at : ℕ) (up down : Bool) (one : Side (alone (rules p) M N) at up) (other : Side (alone (rules p) N M) at down)
+    (found : 1 ≤ at → T (up || down)) where
+  decided : (up && not down) ≡ preferred p M N
+  decided = same_yes (up && not down) (preferred p M N) (λ t. (preferred_says p M N).1 (is_preferred t)) (λ t. was_found ((preferred_says p M N).0 t))
     where
-      equal_below : (j : ℕ) → 1 ≤ j → (f.degree ≡ 0) ⊎ (j < f.degree) → Within (rules p) j M N × Within (rules p) j N M
-      equal_below j l o = (none_within (rules p) N M j (k.other.below j l o), none_within (rules p) M N j (k.one.below j l o))
+      equal_below : (j : ℕ) → 1 ≤ j → (at ≡ 0) ⊎ (j < at) → Within (rules p) j M N × Within (rules p) j N M
+      equal_below j l o = (none_within (rules p) N M j (other.below j l o), none_within (rules p) M N j (one.below j l o))
 
-      is_preferred : T (f.first && not f.second) → Preferred p M N
+      is_preferred : T (up && not down) → Preferred p M N
       is_preferred t =
-          let first : T f.first = and_l f.first (not f.second) t in
-          let second : f.second ≡ false = no_false f.second (T_not f.second (and_r f.first (not f.second) t)) in
-          let z : (f.degree ≡ 0 → ⊥) = λ z. false_no (k.one.none z) first in
-          let l : 1 ≤ f.degree = omega arith in
+          let first : T up = and_l up (not down) t in
+          let second : down ≡ false = no_false down (T_not down (and_r up (not down) t)) in
+          let z : (at ≡ 0 → ⊥) = λ z. false_no (one.none z) first in
+          let l : 1 ≤ at = omega arith in
           record {
-            k = f.degree;
+            k = at;
             from = l;
-            part = none_within (rules p) N M f.degree (k.other.here l ∙ second);
-            strict = λ w. false_no (sym (k.one.here l) ∙ within_none (rules p) M N f.degree w) first;
+            part = none_within (rules p) N M at (other.here l ∙ second);
+            strict = λ w. false_no (sym (one.here l) ∙ within_none (rules p) M N at w) first;
             equal = λ j i h. equal_below j i (inr h);
           }
 
-      was_found : Preferred p M N → T (f.first && not f.second)
-      was_found x = go (dec_lt x.k f.degree) (dec_lt f.degree x.k)
+      was_found : Preferred p M N → T (up && not down)
+      was_found x = go (dec_lt x.k at) (dec_lt at x.k)
         where
           -- the degree that 000 Definition 6 asks for is still open: but there the two differ
-          too_small : (f.degree ≡ 0) ⊎ (x.k < f.degree) → ⊥
+          too_small : (at ≡ 0) ⊎ (x.k < at) → ⊥
           too_small o = x.strict (equal_below x.k x.from o).1
 
-          go : Dec (x.k < f.degree) → Dec (f.degree < x.k) → T (f.first && not f.second)
+          go : Dec (x.k < at) → Dec (at < x.k) → T (up && not down)
           go (yes h) b = absurd (too_small (inr h))
-          go (no h) (yes g) = absurd (unequal f.degree refl)
+          go (no h) (yes g) = absurd (unequal at refl)
             where
-              unequal : (d : ℕ) → f.degree ≡ d → ⊥
+              unequal : (d : ℕ) → at ≡ d → ⊥
               unequal zero e = too_small (inl e)
               unequal (suc d) e =
-                  let l : 1 ≤ f.degree = omega arith in
-                  let q = x.equal f.degree l g in
-                  let a : f.first ≡ false = sym (k.one.here l) ∙ within_none (rules p) M N f.degree q.1 in
-                  let b : f.second ≡ false = sym (k.other.here l) ∙ within_none (rules p) N M f.degree q.0 in
-                  subst T (ap (λ (y : Bool). y || f.second) a ∙ b) (k.found l)
+                  let l : 1 ≤ at = omega arith in
+                  let q = x.equal at l g in
+                  let a : up ≡ false = sym (one.here l) ∙ within_none (rules p) M N at q.1 in
+                  let b : down ≡ false = sym (other.here l) ∙ within_none (rules p) N M at q.0 in
+                  subst T (ap (λ (y : Bool). y || down) a ∙ b) (found l)
           go (no h) (no g) =
-              let e : f.degree ≡ x.k = omega arith in
-              let l : 1 ≤ f.degree = omega (arith, x.from) in
-              let b : f.second ≡ false = sym (k.other.here l) ∙ within_none (rules p) N M f.degree (rw e x.part) in
-              both f.first (not f.second) (first e l) (not_T f.second (false_no b))
+              let e : at ≡ x.k = omega arith in
+              let l : 1 ≤ at = omega (arith, x.from) in
+              let b : down ≡ false = sym (other.here l) ∙ within_none (rules p) N M at (rw e x.part) in
+              both up (not down) (first e l) (not_T down (false_no b))
             where
-              first : f.degree ≡ x.k → 1 ≤ f.degree → T f.first
-              first e l = go' f.first refl
+              first : at ≡ x.k → 1 ≤ at → T up
+              first e l = go' up refl
                 where
-                  go' : (b : Bool) → f.first ≡ b → T b
+                  go' : (b : Bool) → up ≡ b → T b
                   go' true q = tt
-                  go' false q = x.strict (rw (← e) (none_within (rules p) M N f.degree (k.one.here l ∙ q)))
+                  go' false q = x.strict (rw (← e) (none_within (rules p) M N at (one.here l ∙ q)))
 
 -- one pass: the rows of the raised atoms, then those of the page
-pub pass_decides : (p : Program) (M N : ℕ) → p.flags < 2 ^ 16 → (f : Difference) → f ≡ rows_seen (raised_seen p.flags M N) p.rows M N
-    → (f.first && not f.second) ≡ preferred p M N
+pub pass_decides : (p : Program) (M N : ℕ) → p.flags < 2 ^ 16 → (f : Option Difference) → f ≡ rows_seen (raised_seen p.flags M N) p.rows M N
+    → (in_first f && not (in_second f)) ≡ preferred p M N
 unfolding alone rules
 pass_decides p M N w f e =
-    decided p M N f (subst (λ (x : Difference). Kept (alone (rules p) M N) (alone (rules p) N M) x) (sym e)
+    let k = subst (λ (x : Option Difference). Kept (alone (rules p) M N) (alone (rules p) N M) x) (sym e)
     (kept_told _ _ _ _ (rows_seen (raised_seen p.flags M N) p.rows M N) (turned M N) (turned N M)
-    (rows_keep p.rows M N _ _ (raised_seen p.flags M N) (raised_keeps p.flags w M N))))
+    (rows_keep p.rows M N _ _ (raised_seen p.flags M N) (raised_keeps p.flags w M N))) in
+    decided p M N (degree_of f) (in_first f) (in_second f) k.one k.other k.found
   where
     or_turn : (a b : Bool) → (a || b) ≡ (b || a)
     or_turn true true = refl

@@ -1,5 +1,6 @@
 -- What a call's number says, from its list of refusals; and what an accepted list leaves in the lent slice. Assumes nothing.
-use mathlib.Core.Path.{◌≡◌, refl, sym, ◌∙◌, subst}
+use Rattle.std.specs.Prelude.{Result, Ok, Err}
+use mathlib.Core.Path.{◌≡◌, refl, sym, ap, ◌∙◌, subst}
 use mathlib.Core.Bool.{cond}
 use mathlib.Core.Logic.{◌↔◌}
 use mathlib.Core.List.{List, ◌++◌}
@@ -11,6 +12,8 @@ use borrow.Author.Tests.{ne_eqb}
 use Rattle.atoms.proofs.Truth.{both}
 use Rattle.lpod.proofs.Lists.{every_append}
 use Rattle.page.specs.Refusals.{Refusal, first_that, none_holds, numbered, FirstOf}
+use Rattle.page.specs.Answers.{no, Answered, answered, by_number}
+use Rattle.page.specs.declared.refusal.Refusal as code
 use Rattle.page.proofs.Refusals.{none_given, given_none, first_given, given_first}
 use Rattle.lanes.specs.Entries.{over}
 
@@ -45,3 +48,26 @@ where_refused n x y z = rw (ne_eqb n 0 z)
 
 pub where_accepted : {A : Type 0} (n : ℕ) (x y : A) → n ≡ 0 → cond (eqb n 0) x y ≡ x
 where_accepted n x y z = rw z
+
+-- ---- what an answer says by its number and its value
+module _ {A : Type 0} (blank : A) where
+  number_read : (r : Result A code.Refusal) → (answered blank r).no ≡ no r
+  number_read (Ok a) = refl
+  number_read (Err e) = refl
+
+  -- a refused answer has the blank value
+  pub refused_blank : (r : Result A code.Refusal) → (no r ≡ 0 → ⊥) → (answered blank r).value ≡ blank
+  refused_blank (Ok a) z = absurd (z refl)
+  refused_blank (Err e) z = refl
+
+  module _ (a : A) (n : ℕ) where
+    pub number_said : (r : Result A code.Refusal) → answered blank r ≡ by_number blank n a → no r ≡ n
+    unfolding by_number
+    number_said r e = sym (number_read r) ∙ ap (λ (x : Answered A). x.no) e
+
+    -- an accepted one has this value
+    pub accepted_said : (x : A) → answered blank (Ok x) ≡ by_number blank n a → (n ≡ 0) × (x ≡ a)
+    unfolding by_number
+    accepted_said x e =
+        let z : n ≡ 0 = sym (ap (λ (y : Answered A). y.no) e) in
+        (z, ap (λ (y : Answered A). y.value) e ∙ where_accepted n a blank z)

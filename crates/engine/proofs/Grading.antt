@@ -1,74 +1,73 @@
--- The call for the degrees, told by what its code finds: the number, one condition after the other; and what is answered and left by that
--- number. Assumes nothing.
-use mathlib.Core.Path.{◌≡◌, sym, ◌∙◌}
+-- The statement of the call for the degrees, for each of its ways out. Assumes nothing.
+use Rattle.std.specs.Prelude.{Ok, Err}
+use mathlib.Core.Path.{◌≡◌, ap, ◌∙◌}
 use mathlib.Core.Bool.{Bool, true, false, not}
 use mathlib.Core.List.{List, [], ◌∷◌, map}
 use Prim.Native.Nat.{ℕ, ◌≤◌, ◌<◌}
+use native.Mathlib.Omega.{arith}
 use lib.Dec.{ltb}
-use lib.ListN.{length, take}
-use borrow.Author.Tests.{ltb-false, lt-ltb, le-ltb, ne_eqb}
-use Rattle.lpod.specs.Lists.{every}
+use lib.ListN.{length}
+use borrow.Author.Tests.{lt-ltb, le-ltb, ne_eqb}
+use Rattle.lpod.specs.Rule.{Rule}
 use Rattle.lpod.specs.Answer.{answer}
 use Rattle.lpod.specs.Degree.{degree, degrees}
 use Rattle.page.specs.Fields.{row_count}
-use Rattle.page.specs.Program.{rows_of, program}
-use Rattle.page.specs.Refusals.{Refusal, refuse, first_that, numbered, test_refusals, test_no}
-use Rattle.page.proofs.Refusals.{test_numbered, given_append, given_denied}
-use Rattle.words.specs.Coded.{program_in, row_total, pair_total, row_words, pair_words}
-use Rattle.words.proofs.Lent.{words_many, test_page, lent_count, lent_answer}
+use Rattle.page.specs.Program.{program}
+use Rattle.page.specs.Refusals as lists
+use Rattle.page.specs.Refusals.{refuse, first_that, test_refusals, test_no}
+use Rattle.page.specs.Answers.{number}
+use Rattle.page.specs.declared.refusal.Refusal.{Refusal}
+use Rattle.page.specs.declared.refusal.Refusal.TheVariants.{NoRoom, NotAnAnswerSet}
+use Rattle.page.proofs.Refusals.{test_numbered}
+use Rattle.page.proofs.Refusing.{above_zero, first_stands, then_rest, refused_here, given}
+use Rattle.words.specs.Coded.{rules_in, program_in, row_words, pair_words}
+use Rattle.words.proofs.Lent.{test_page, lent_count, lent_rows, lent_answer}
 use Rattle.lanes.specs.Entries.{over}
-use Rattle.engine.specs.Degrees.{degrees_refusals, degrees_no, graded, degrees_after, DegreesSays}
-use Rattle.engine.proofs.Refused.{refused_first, refused_later}
+use Rattle.engine.specs.Degrees.{degrees_refusals, degrees_no, degrees_after, DegreesSays}
 
--- ---- the number
-module _ (page : List ℕ) (flags set room n : ℕ) (e : n ≡ test_no page flags set) where
-  last : List Refusal
-  last = refuse 11 (ltb room (row_count page)) ∷ refuse 13 (not (answer (program page flags) set)) ∷ []
+module _ (page : List ℕ) (flags set : ℕ) (out : List ℕ) where
+  last : List lists.Refusal
+  last = refuse 11 (ltb (length out) (row_count page)) ∷ refuse 13 (not (answer (program page flags) set)) ∷ []
 
-  pub number_tested : (n ≡ 0 → ⊥) → n ≡ degrees_no page flags set room
+  -- a refused call
+  refused_by : (e : Refusal) → number e ≡ degrees_no page flags set (length out) → DegreesSays page flags set out out (Err e)
+  unfolding degrees_after
+  refused_by e n = (refused_here 0 (row_count page) _ e n, rw (← n, ne_eqb (number e) 0 (λ z. omega (arith, above_zero e, z))))
+
+  -- by the page, the flag word or the set
+  pub grading_tested : (e : Refusal) → number e ≡ test_no page flags set → DegreesSays page flags set out out (Err e)
   unfolding degrees_no degrees_refusals test_no last
-  number_tested z = refused_first (test_refusals page flags set) last (test_numbered page flags set) n e z
+  grading_tested e q = refused_by e (first_stands (test_refusals page flags set) last (test_numbered page flags set) e q)
 
-  -- and the last two, as they are found of the words of an accepted page
-  pub number_last : n ≡ 0 → (m : ℕ) (rows : List ℕ) → m ≤ length rows → m ≡ row_total page → take (row_total page) rows ≡ row_words page
-      → (q : ℕ) (pairs : List ℕ) → q ≡ pair_total page → take (pair_total page) pairs ≡ pair_words page
-      → (k : ℕ) → k ≡ first_that (refuse 11 (ltb room (length (take m rows))) ∷ refuse 13 (not (answer (program_in (take m rows) (take q pairs) flags) set)) ∷ [])
-      → k ≡ degrees_no page flags set room
-  unfolding degrees_no degrees_refusals test_no last
-  number_last z m rows l em er q pairs eq ep k ek =
-      let h = test_page page flags set n e z in
-      let many : length (take m rows) ≡ row_count page = sym (words_many m rows l) ∙ lent_count page h m rows em er in
-      ek ∙ rw (many, lent_answer page h m rows em er q pairs eq ep flags)
-      (sym (refused_later (test_refusals page flags set) last (test_numbered page flags set) n e z))
+  -- by the last two, as they are found of the words of an accepted page
+  module _ (z : 0 ≡ test_no page flags set) (rows : List ℕ) (er : rows ≡ row_words page) where
+    from_last : (n : ℕ) → n ≡ first_that last → n ≡ degrees_no page flags set (length out)
+    unfolding degrees_no degrees_refusals test_no last
+    from_last n = then_rest (test_refusals page flags set) last (test_numbered page flags set) n z
 
--- the last two, one condition after the other
-pub last_short : (room rows : ℕ) (a : Bool) → room < rows → 11 ≡ first_that (refuse 11 (ltb room rows) ∷ refuse 13 (not a) ∷ [])
-unfolding first_that
-last_short room rows a h = rw (lt-ltb room rows h)
+    many : length rows ≡ row_count page
+    many = lent_count page (test_page page flags set z) rows er
 
-module _ (room rows : ℕ) (a b : Bool) (eb : b ≡ a) where
-  module _ (h : rows ≤ room) where
-    pub last_no_answer : b ≡ false → 13 ≡ first_that (refuse 11 (ltb room rows) ∷ refuse 13 (not a) ∷ [])
-    unfolding first_that
-    last_no_answer t = rw (le-ltb room rows h, ← eb, t)
+    pub grading_short : length out < length rows → DegreesSays page flags set out out (Err NoRoom)
+    unfolding first_that last
+    grading_short f = refused_by NoRoom (from_last 11 (rw (lt-ltb (length out) (row_count page) (omega (arith, f, many)))))
 
-    pub last_none : b ≡ true → 0 ≡ first_that (refuse 11 (ltb room rows) ∷ refuse 13 (not a) ∷ [])
-    unfolding first_that
-    last_none t = rw (le-ltb room rows h, ← eb, t)
+    module _ (f : length rows ≤ length out) (pairs : List ℕ) (ep : pairs ≡ pair_words page) (b : Bool) (eb : b ≡ answer (program_in rows pairs flags) set) where
+      room : ltb (length out) (row_count page) ≡ false
+      room = le-ltb (length out) (row_count page) (omega (arith, f, many))
 
--- ---- the answer, and the slice afterwards
-module _ (page : List ℕ) (flags set : ℕ) (out : List ℕ) (n : ℕ) (e : n ≡ degrees_no page flags set (length out)) where
-  pub grading_refused : (n ≡ 0 → ⊥) → DegreesSays page flags set out out (record { no = n; count = 0 })
-  unfolding graded degrees_after
-  grading_refused z = (rw (← e, ne_eqb n 0 z), rw (← e, ne_eqb n 0 z))
+      told : b ≡ answer (program page flags) set
+      told = eb ∙ ap (λ (q : ℕ → Bool). q set) (lent_answer page (test_page page flags set z) rows er pairs ep flags)
 
-  pub grading_room : n ≡ 0 → row_count page ≤ length out
-  unfolding degrees_no degrees_refusals numbered every
-  grading_room z =
-      let g = given_append (test_refusals page flags set) _ (test_numbered page flags set) (sym e ∙ z) in
-      ltb-false (length out) (row_count page) (given_denied (refuse 11 (ltb (length out) (row_count page)) ∷ refuse 13 (not (answer (program page flags) set)) ∷ []) tt g.1).0
+      pub grading_no_answer : b ≡ false → DegreesSays page flags set out out (Err NotAnAnswerSet)
+      unfolding first_that last
+      grading_no_answer t = refused_by NotAnAnswerSet (from_last 13 (rw (room, ← told, t)))
 
-  pub grading_given : n ≡ 0 → (count : ℕ) → count ≡ row_count page → (after : List ℕ) → after ≡ over (map (degree set) (rows_of page)) out
-      → DegreesSays page flags set out after (record { no = 0; count = count })
-  unfolding graded degrees_after degrees program
-  grading_given z count ec after ea = (rw (← e, z, ec), ea ∙ rw (← e, z))
+      -- the call gives the degrees
+      pub grading_given : b ≡ true → (count : ℕ) → count ≡ length rows → (after : List ℕ) → after ≡ over (map (degree set) (rules_in rows)) out
+          → DegreesSays page flags set out after (Ok count)
+      unfolding first_that last degrees_after degrees program
+      grading_given t count ec after ea =
+          let n = from_last 0 (rw (room, ← told, t)) in
+          let rules = lent_rows page (test_page page flags set z) rows er in
+          (given 0 (row_count page) _ n count (ec ∙ many), ea ∙ ap (λ (P : List Rule). over (map (degree set) P) out) rules ∙ rw (← n))

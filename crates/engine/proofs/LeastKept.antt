@@ -1,5 +1,7 @@
 -- What a pass over the rules keeps: the least degree that some rule has in one of two sets alone, and in which of the two. A rule with the
 -- same degree in both changes nothing; one with different degrees adds each of them that is not 0. Assumes nothing.
+use Rattle.std.specs.Prelude.{Option, Some, None}
+use Rattle.std.specs.Option.{IfSome, MatchOption}
 use mathlib.Core.Path.{◌≡◌, refl, sym, ap, ◌∙◌}
 use mathlib.Core.Bool.{Bool, true, false, ◌&&◌, ◌||◌, not, cond, or-false, or_assoc}
 use mathlib.Core.Logic.{◌⊎◌, inl, inr, ⊎_elim}
@@ -8,11 +10,10 @@ use Prim.Native.Nat.{ℕ, ◌≤◌, ◌<◌}
 use native.Mathlib.Omega.{arith}
 use lib.Dec.{T, eqb, ltb, eqb→eq}
 use borrow.Author.Tests.{ltb-true, ltb-false, eqb-true, eqb-false, ne_eqb, eq-eqb}
-use Rattle.atoms.proofs.Truth.{false_no}
 use Rattle.lpod.specs.Lists.{some}
 use Rattle.lpod.specs.Rule.{Rule}
 use Rattle.lpod.specs.Degree.{degree}
-use Rattle.engine.specs.Rank.{noted, seen, rows_seen}
+use Rattle.engine.specs.Rank.{added, noted, seen, rows_seen}
 use Rattle.engine.specs.declared.rank.Difference.{Difference}
 
 -- ---- one set's side: at which degrees some rule has that degree in this set alone
@@ -71,79 +72,99 @@ side_told at to k flag e s = record {
   none = s.none;
 }
 
--- ---- both sides
-pub record Kept (up down : ℕ → Bool) (f : Difference) : Type 0 where
-  pub one : Side up f.degree f.first
-  pub other : Side down f.degree f.second
-  pub found : 1 ≤ f.degree → T (f.first || f.second)
+-- ---- both sides: what was found, which is at a degree of 1 or more; nothing found is written 0
+abbrev pub degree_of : Option Difference → ℕ
+degree_of None = 0
+degree_of (Some f) = f.degree
 
-pub kept_told : (up down up' down' : ℕ → Bool) (f : Difference) → ((j : ℕ) → up j ≡ up' j) → ((j : ℕ) → down j ≡ down' j) → Kept up down f → Kept up' down' f
+abbrev pub in_first : Option Difference → Bool
+in_first None = false
+in_first (Some f) = f.first
+
+abbrev pub in_second : Option Difference → Bool
+in_second None = false
+in_second (Some f) = f.second
+
+-- as code asks for it
+pub some_and : (f : Option Difference) (b : Bool) → MatchOption f (b ≡ false) (λ x. b ≡ (x.first && not x.second)) → b ≡ (in_first f && not (in_second f))
+some_and None b e = e
+some_and (Some f) b e = e
+
+pub record Kept (up down : ℕ → Bool) (f : Option Difference) : Type 0 where
+  pub one : Side up (degree_of f) (in_first f)
+  pub other : Side down (degree_of f) (in_second f)
+  pub found : 1 ≤ degree_of f → T (in_first f || in_second f)
+  pub from_one : IfSome f (λ d. 1 ≤ d.degree)
+
+pub kept_told : (up down up' down' : ℕ → Bool) (f : Option Difference) → ((j : ℕ) → up j ≡ up' j) → ((j : ℕ) → down j ≡ down' j) → Kept up down f → Kept up' down' f
 kept_told up down up' down' f eu ed k = record {
-  one = side_told up up' f.degree f.first eu k.one;
-  other = side_told down down' f.degree f.second ed k.other;
+  one = side_told up up' (degree_of f) (in_first f) eu k.one;
+  other = side_told down down' (degree_of f) (in_second f) ed k.other;
   found = k.found;
+  from_one = k.from_one;
 }
 
-module _ (up down : ℕ → Bool) (f : Difference) (k : Kept up down f) where
-  noted_keeps : (d : ℕ) (first : Bool) → Kept (adds up d first) (adds down d (not first)) (noted f d first)
-  unfolding noted
-  noted_keeps d first = go (eqb d 0) (eqb f.degree 0 || ltb d f.degree) (eqb d f.degree) refl refl refl
+module _ (up down : ℕ → Bool) (d : ℕ) (first : Bool) where
+  either : (b : Bool) → T (b || not b)
+  either true = tt
+  either false = tt
+
+  more : (a b c d : Bool) → T (a || b) → T ((a || c) || (b || d))
+  more true b c d t = tt
+  more false true true d t = tt
+  more false true false d t = tt
+  more false false c d t = absurd t
+
+  Keeps : Option Difference → Type 0
+  Keeps g = Kept (adds up d first) (adds down d (not first)) g
+
+  stays : (f : Option Difference) → Kept up down f → (d ≡ 0) ⊎ ((1 ≤ degree_of f) × (degree_of f < d)) → Keeps f
+  unfolding Keeps
+  stays f k o = record {
+    one = side_later up d first (degree_of f) (in_first f) k.one o;
+    other = side_later down d (not first) (degree_of f) (in_second f) k.other o;
+    found = k.found;
+    from_one = k.from_one;
+  }
+
+  is_least : (f : Option Difference) → Kept up down f → 1 ≤ d → Open (degree_of f) d → Keeps (Some (record { degree = d; first = first; second = not first }))
+  unfolding Keeps
+  is_least f k l o = record {
+    one = side_least up d first (degree_of f) (in_first f) k.one l o;
+    other = side_least down d (not first) (degree_of f) (in_second f) k.other l o;
+    found = λ i. either first;
+    from_one = l;
+  }
+
+  added_keeps : (f : Option Difference) → Kept up down f → 1 ≤ d → Keeps (Some (added f d first))
+  unfolding added Keeps
+  added_keeps None k l = is_least None k l (inl refl)
+  added_keeps (Some f) k l = go (ltb f.degree d) (eqb f.degree d) refl refl
     where
-      either : (b : Bool) → T (b || not b)
-      either true = tt
-      either false = tt
-
-      more : (a b c d : Bool) → T (a || b) → T ((a || c) || (b || d))
-      more true b c d t = tt
-      more false true true d t = tt
-      more false true false d t = tt
-      more false false c d t = absurd t
-
-      open_if : (m : ℕ) (b : Bool) → eqb m 0 ≡ b → (b || ltb d m) ≡ true → Open m d
-      open_if m true e t = inl (eqb-true m 0 e)
-      open_if m false e t = inr (ltb-true d m t)
-
-      shut_if : (m : ℕ) (b : Bool) → eqb m 0 ≡ b → (b || ltb d m) ≡ false → (1 ≤ m) × (m ≤ d)
-      shut_if m true e t = let z : ◌≡◌ {A = Bool} true false = t in absurd (false_no z tt)
-      shut_if m false e t = let n = eqb-false m 0 e in (omega arith, ltb-false d m t)
-
-      Keeps : Difference → Type 0
-      Keeps g = Kept (adds up d first) (adds down d (not first)) g
-
-      stays : (d ≡ 0) ⊎ ((1 ≤ f.degree) × (f.degree < d)) → Keeps f
-      stays o = record {
-        one = side_later up d first f.degree f.first k.one o;
-        other = side_later down d (not first) f.degree f.second k.other o;
-        found = k.found;
-      }
-
-      go : (a b c : Bool) → eqb d 0 ≡ a → (eqb f.degree 0 || ltb d f.degree) ≡ b → eqb d f.degree ≡ c
-          → Keeps (cond a f (cond b (record { degree = d; first = first; second = not first })
-          (cond c (record { degree = d; first = f.first || first; second = f.second || not first }) f)))
-      go true b c ea eb ec = stays (inl (eqb-true d 0 ea))
-      go false true c ea eb ec =
-          let l : 1 ≤ d = omega (arith, eqb-false d 0 ea) in
-          let o = open_if f.degree (eqb f.degree 0) refl eb in
+      go : (a b : Bool) → ltb f.degree d ≡ a → eqb f.degree d ≡ b
+          → Keeps (Some (cond a f (cond b (record { degree = d; first = f.first || first; second = f.second || not first })
+          (record { degree = d; first = first; second = not first }))))
+      go true b ea eb = stays (Some f) k (inr (k.from_one, ltb-true f.degree d ea))
+      go false true ea eb =
+          let e : d ≡ f.degree = sym (eqb-true f.degree d eb) in
           record {
-            one = side_least up d first f.degree f.first k.one l o;
-            other = side_least down d (not first) f.degree f.second k.other l o;
-            found = λ i. either first;
+            one = side_same up d first f.degree f.first k.one k.from_one e;
+            other = side_same down d (not first) f.degree f.second k.other k.from_one e;
+            found = λ i. more f.first f.second first (not first) (k.found k.from_one);
+            from_one = l;
           }
-      go false false true ea eb ec =
-          let e : d ≡ f.degree = eqb-true d f.degree ec in
-          let h = shut_if f.degree (eqb f.degree 0) refl eb in
-          record {
-            one = side_same up d first f.degree f.first k.one h.0 e;
-            other = side_same down d (not first) f.degree f.second k.other h.0 e;
-            found = λ i. more f.first f.second first (not first) (k.found h.0);
-          }
-      go false false false ea eb ec =
-          let h = shut_if f.degree (eqb f.degree 0) refl eb in
-          let n = eqb-false d f.degree ec in
-          stays (inr (h.0, omega (arith, h.1)))
+      go false false ea eb = is_least (Some f) k l (inr (omega (arith, ltb-false f.degree d ea, eqb-false f.degree d eb)))
+
+  noted_keeps : (f : Option Difference) → Kept up down f → Keeps (noted f d first)
+  unfolding noted Keeps
+  noted_keeps f k = go (eqb d 0) refl
+    where
+      go : (a : Bool) → eqb d 0 ≡ a → Keeps (cond a f (Some (added f d first)))
+      go true e = stays f k (inl (eqb-true d 0 e))
+      go false e = added_keeps f k (omega (arith, eqb-false d 0 e))
 
 -- ---- a row, with its degrees d and e in the two sets
-module _ (up down : ℕ → Bool) (f : Difference) (k : Kept up down f) (d e : ℕ) where
+module _ (up down : ℕ → Bool) (f : Option Difference) (k : Kept up down f) (d e : ℕ) where
   -- a degree is the row's in one set alone just where its two degrees differ
   apart : (a u x y : Bool) → (T x → T y → ⊥) → ((u || (x && a)) || (y && not a)) ≡ (u || (cond a x y && not (cond a y x)))
   apart true true x y n = refl
@@ -164,7 +185,7 @@ module _ (up down : ℕ → Bool) (f : Difference) (k : Kept up down f) (d e : �
   alike false false = refl
 
   seen_keeps : Kept (λ j. up j || (eqb d j && not (eqb e j))) (λ j. down j || (eqb e j && not (eqb d j))) (seen f d e)
-  unfolding seen adds
+  unfolding seen adds Keeps
   seen_keeps = go (eqb d e) refl
     where
       go : (b : Bool) → eqb d e ≡ b
@@ -175,14 +196,14 @@ module _ (up down : ℕ → Bool) (f : Difference) (k : Kept up down f) (d e : �
       go false q =
           let n : (j : ℕ) → T (eqb d j) → T (eqb e j) → ⊥ = λ j s t. eqb-false d e q (eqb→eq d j s ∙ sym (eqb→eq e j t)) in
           kept_told _ _ _ _ (noted (noted f d true) e false) (λ j. apart true (up j) (eqb d j) (eqb e j) (n j)) (λ j. apart false (down j) (eqb d j) (eqb e j) (n j))
-          (noted_keeps (adds up d true) (adds down d false) (noted f d true) (noted_keeps up down f k d true) e false)
+          (noted_keeps (adds up d true) (adds down d false) e false (noted f d true) (noted_keeps up down d true f k))
 
 -- ---- all rows
 -- some rule has degree j in M and not in N
 unfoldable pub alone : List Rule → ℕ → ℕ → ℕ → Bool
 alone P M N j = some (λ r. eqb (degree M r) j && not (eqb (degree N r) j)) P
 
-pub rows_keep : (P : List Rule) (M N : ℕ) (up down : ℕ → Bool) (f : Difference) → Kept up down f
+pub rows_keep : (P : List Rule) (M N : ℕ) (up down : ℕ → Bool) (f : Option Difference) → Kept up down f
     → Kept (λ j. up j || alone P M N j) (λ j. down j || alone P N M j) (rows_seen f P M N)
 unfolding rows_seen alone some
 rows_keep [] M N up down f k = kept_told up down _ _ f (λ j. sym (or-false (up j))) (λ j. sym (or-false (down j))) k
@@ -190,14 +211,8 @@ rows_keep (r ∷ P) M N up down f k =
     kept_told _ _ _ _ (rows_seen f (r ∷ P) M N) (λ j. or_assoc (up j) _ _) (λ j. or_assoc (down j) _ _)
     (rows_keep P M N _ _ (seen f (degree M r) (degree N r)) (seen_keeps up down f k (degree M r) (degree N r)))
 
--- ---- as code goes through them: one row, and the rest
-module _ {P rest : List Rule} {r : Rule} (M N : ℕ) (f : Difference) (e : P ≡ r ∷ rest) (dm dn : ℕ) (em : dm ≡ degree M r) (en : dn ≡ degree N r) where
-  pub rows_go : (f' : Difference) → f' ≡ seen f dm dn → rows_seen f P M N ≡ rows_seen f' rest M N
-  unfolding rows_seen
-  rows_go f' ef =
-      let q : seen f (degree M r) (degree N r) ≡ f' = rw (← em, ← en) (sym ef) in
-      ap (λ (P : List Rule). rows_seen f P M N) e ∙ ap (λ (x : Difference). rows_seen x rest M N) q
-
-pub rows_end : (P : List Rule) (M N : ℕ) (f : Difference) → P ≡ [] → rows_seen f P M N ≡ f
+-- as code goes through them: one row, and the rest
+pub rows_go : {P rest : List Rule} {r : Rule} (M N : ℕ) (f f' : Option Difference) → P ≡ r ∷ rest → f' ≡ seen f (degree M r) (degree N r)
+    → rows_seen f P M N ≡ rows_seen f' rest M N
 unfolding rows_seen
-rows_end P M N f e = rw e
+rows_go M N f f' e ef = rw (e, ef)

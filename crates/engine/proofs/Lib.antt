@@ -1,13 +1,11 @@
 pub mod LeastKept
 pub mod FirstDifference
-pub mod Refused
 pub mod Stored
+pub mod Given
+pub mod AnswerSets
+pub mod SetsStored
 pub mod Grading
 pub mod Comparing
-pub mod LastRefusal
-pub mod SetsStored
-pub mod AnswerSets
 pub mod Picks
-pub mod Given
 pub mod Demands
 pub mod Determined

@@ -1,5 +1,4 @@
 pub mod Calls
 pub mod Compare
 pub mod Degrees
-pub mod Lists
 pub mod Rank

@@ -1,33 +1,22 @@
--- `compare::compare` gives the number of the first refusal, or the comparison. On an accepted page the words mean its program. The side, read back from
--- its bits, is itself. Assumes nothing.
-use mathlib.Core.Path.{refl, ap, ◌∙◌}
-use mathlib.Core.Bool.{Bool, ◌&&◌}
-use Prim.Native.Nat.{ℕ}
-use native.Mathlib.Omega.{arith}
-use Rattle.words.proofs.Lent.{lent_answer, lent_preferred}
-use Rattle.engine.proofs.Comparing.{sets_page, compare_early, compare_no_answer, compare_none, compare_refused, compare_given, compare_by, side_read}
+-- `compare::compare` gives the first refusal, or the comparison. On an accepted page the words mean its program. Assumes nothing.
+use mathlib.Core.Path.{◌∙◌}
+use Rattle.page.proofs.Refusing.{passed_up}
+use Rattle.engine.proofs.Comparing.{compare_tested, compare_second_tested, compare_no_answer, compare_given}
 use Rattle.engine.proofs.compare.compare.Goals as goal
 
-pub returns-then-no-ne0 : goal.returns-then-no-ne0
-returns-then-no-ne0 c = compare_refused _ _ _ (compare_early _ _ _ _ _ c.sets_no-no.ensures c.if-no-ne0.true) c.if-no-ne0.true
+pub returns-in_err-check_test : goal.returns-in_err-check_test
+returns-in_err-check_test c = rw (passed_up _ _ c.from_residual.ensures.1) (compare_tested _ _ _ _ _ c.in_err-check_test.ensures)
+
+pub returns-in_err-check_set : goal.returns-in_err-check_set
+returns-in_err-check_set c =
+    rw (passed_up _ _ c.from_residual-in_err-check_set.ensures.1) (compare_second_tested _ _ _ _ c.in_ok-check_test.ensures _ c.in_err-check_set.ensures)
 
 pub returns-then-not-both_answer : goal.returns-then-not-both_answer
 returns-then-not-both_answer c =
-    let a = c.args in
-    let h = sets_page a.page.now a.flags a.first a.second _ c.sets_no-no.ensures c.if-no-ne0.false in
-    let e = lent_answer a.page.now h _ _ c.row_total-n.ensures.0 c.row_words-rows.ensures.1 _ _ c.pair_total-q.ensures.0 c.pair_words-pairs.ensures.1 a.flags in
-    compare_refused _ 13 _
-    (compare_no_answer _ _ _ _ _ c.sets_no-no.ensures c.if-no-ne0.false c.both_answer.result
-    (c.both_answer.ensures ∙ ap (λ (passes : ℕ → Bool). passes a.first && passes a.second) e) c.if-not-both_answer.true)
-    (λ q. omega arith)
+    compare_no_answer _ _ _ _ c.in_ok-check_test.ensures c.in_ok-check_set.ensures _ (c.deref.ensures.0 ∙ c.row_words-rows.ensures)
+    _ (c.deref-2.ensures.0 ∙ c.pair_words-pairs.ensures) _ c.both_answer.ensures c.if-not-both_answer.true
 
 pub returns : goal.returns
 returns c =
-    let a = c.args in
-    let h = sets_page a.page.now a.flags a.first a.second _ c.sets_no-no.ensures c.if-no-ne0.false in
-    let e = lent_answer a.page.now h _ _ c.row_total-n.ensures.0 c.row_words-rows.ensures.1 _ _ c.pair_total-q.ensures.0 c.pair_words-pairs.ensures.1 a.flags in
-    let o = lent_preferred a.page.now h _ _ c.row_total-n.ensures.0 c.row_words-rows.ensures.1 a.flags in
-    compare_given _ 0 _
-    (compare_none _ _ _ _ _ c.sets_no-no.ensures c.if-no-ne0.false c.both_answer.result
-    (c.both_answer.ensures ∙ ap (λ (passes : ℕ → Bool). passes a.first && passes a.second) e) c.if-not-both_answer.false)
-    refl _ (side_read _ _ _ c.side_of-side.result (c.side_of-side.ensures ∙ compare_by _ _ a.first a.second o))
+    compare_given _ _ _ _ c.in_ok-check_test.ensures c.in_ok-check_set.ensures _ c.row_words-rows.ensures _ c.pair_words-pairs.ensures
+    _ (rw (c.deref.ensures.0, c.deref-2.ensures.0) at c.both_answer.ensures) c.if-not-both_answer.false _ (rw c.deref-3.ensures.0 at c.side_of.ensures)

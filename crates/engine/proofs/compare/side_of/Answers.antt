@@ -9,9 +9,9 @@ returns-then-preferred c = rw (← c.preferred.ensures, c.if-preferred.true)
 pub returns-then-preferred-2 : goal.returns-then-preferred-2
 unfolding compare
 returns-then-preferred-2 c =
-    rw (← c.preferred.ensures, c.if-preferred.false, ← c.preferred-2.ensures, c.if-preferred-2.true)
+    rw (← c.preferred.ensures, c.if-preferred.false, ← c.preferred-else-preferred.ensures, c.if-preferred-2.true)
 
-pub returns : goal.returns
+pub returns-else-preferred-2 : goal.returns-else-preferred-2
 unfolding compare
-returns c =
-    rw (← c.preferred.ensures, c.if-preferred.false, ← c.preferred-2.ensures, c.if-preferred-2.false)
+returns-else-preferred-2 c =
+    rw (← c.preferred.ensures, c.if-preferred.false, ← c.preferred-else-preferred.ensures, c.if-preferred-2.false)

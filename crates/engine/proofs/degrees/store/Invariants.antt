@@ -2,8 +2,7 @@
 -- that are left into the slice as it is. Assumes nothing.
 use mathlib.Core.Path.{◌≡◌}
 use mathlib.Core.List.{map}
-use Prim.Native.Nat.{◌-◌, ◌≤◌}
-use lib.ListN.{length, drop}
+use lib.ListN.{drop}
 use lib.Seq.{sets}
 use Rattle.lpod.specs.Degree.{degree}
 use Rattle.words.specs.Coded.{rule_in, rules_in}
@@ -11,7 +10,4 @@ use Rattle.engine.proofs.degrees.store.Given as goal
 
 abbrev pub invariant-loop-n : goal.invariant-loop-n
 invariant-loop-n l =
-    (l.n ≤ length l.rows) × (length l.out ≡ length l.initial.out) × (sets l.initial.out 0 (map (degree l.set) (rules_in l.rows)) ≡ sets l.out l.n (map (degree l.set) (map rule_in (drop l.n l.rows))))
-
-abbrev pub decreases-loop-n : goal.decreases-loop-n
-decreases-loop-n l = length l.rows - l.n
+    sets l.initial.out 0 (map (degree l.set) (rules_in l.rows)) ≡ sets l.out l.n (map (degree l.set) (map rule_in (drop l.n l.rows)))

@@ -1,27 +1,16 @@
--- `pick::pick` refuses by the first refusal; else it gives the least best set that is found, or 10 where none is. Assumes nothing.
+-- `pick::pick` refuses by the first refusal; else what is found settles the answer. On an accepted page the words mean its program. Assumes nothing.
 use mathlib.Core.Path.{sym, ◌∙◌}
-use Rattle.engine.proofs.Picks.{pick_refused, pick_none, pick_found}
+use Rattle.engine.proofs.AnswerSets.{made_pick}
+use Rattle.engine.proofs.Picks.{pick_refused, pick_found}
 use Rattle.engine.proofs.pick.pick.Goals as goal
 
-pub returns-then-no-ne0 : goal.returns-then-no-ne0
-returns-then-no-ne0 c =
-    let k = c.flag_no-no in
-    let a = c.args in
-    pick_refused a.page.now a.flags k.result k.ensures c.if-no-ne0.true
-
-pub first_best-m-requires : goal.first_best-m-requires
-first_best-m-requires c = sym c.flag_no-no.ensures ∙ c.if-no-ne0.false
-
-pub returns-then-m-lt65536 : goal.returns-then-m-lt65536
-returns-then-m-lt65536 c =
-    let m = c.first_best-m in
-    let k = c.flag_no-no in
-    let a = c.args in
-    pick_found a.page.now a.flags k.result k.ensures c.ranges.flags.fits c.if-no-ne0.false m.result m.ensures c.if-m-lt65536.true
+pub returns-in_err-check_flags : goal.returns-in_err-check_flags
+returns-in_err-check_flags c = pick_refused _ _ _ _ c.from_residual.ensures.1 c.in_err-check_flags.ensures
 
 pub returns : goal.returns
 returns c =
-    let m = c.first_best-m in
-    let k = c.flag_no-no in
     let a = c.args in
-    pick_none a.page.now a.flags k.result k.ensures c.ranges.flags.fits c.if-no-ne0.false m.result m.ensures c.if-m-lt65536.false
+    let z = c.in_ok-check_flags.ensures in
+    let e = made_pick a.page.now a.flags c.ranges.flags.fits (sym z) _ (c.deref.ensures.0 ∙ c.row_words-rows.ensures) c.deref.ensures.1
+    _ (c.deref-2.ensures.0 ∙ c.pair_words-pairs.ensures) in
+    rw c.ok_or.ensures.value (pick_found a.page.now a.flags z _ (c.pick.ensures ∙ e))
