@@ -3,21 +3,17 @@
 use mathlib.Core.Path.{◌≡◌, refl, sym, ap, ◌∙◌, subst}
 use mathlib.Core.Bool.{Bool, true, false, ◌&&◌, ◌||◌, not, and-true, and-false, or-true}
 use mathlib.Core.List.{List, [], ◌∷◌}
-use Prim.Native.Nat.{ℕ, zero, suc, ◌+◌, ◌-◌, ◌*◌, ◌/◌, ◌%◌, ◌^◌, ◌≤◌, ◌<◌}
-use native.Mathlib.Nat.{mod-lt, zero-lt-suc, pow-suc}
+use Prim.Native.Nat.{ℕ, ◌+◌, ◌-◌, ◌*◌, ◌/◌, ◌%◌, ◌≤◌, ◌<◌}
 use native.Mathlib.Decide.{ℕ_discrete, dec_lt}
 use native.Mathlib.Omega.{arith}
-use lib.Arith.{lt_of_le-ne}
 use lib.Bits.{bit_and, bit_xor}
-use lib.Count.{count_trailing_zeros, under}
-use lib.Dec.{T, eqb, eqb→eq, eqb_refl, T_not, not_T, eqb-suc-zero, eqb-suc-suc}
+use lib.Dec.{T, eqb}
 use lib.ListN.{length, get_or, set}
 use lib.Seq.{get_or-set_same, get_or-set_other}
-use Rattle.atoms.specs.Atoms.{has, inside, common, lowest}
-use Rattle.atoms.proofs.Truth.{and_l, and_r, both, same_yes, yes_true}
-use Rattle.atoms.proofs.Bits.{has_and, has_zero, has_low, has_next, has_below, inside_le}
-use Rattle.atoms.proofs.Count.{lowest_in}
-use Rattle.lpod.specs.Lists.{every, some, keep, numbers, below}
+use Rattle.atoms.specs.Atoms.{has, inside, common}
+use Rattle.atoms.proofs.Truth.{and_l, and_r, both, same_yes}
+use Rattle.atoms.proofs.Bits.{has_and, has_zero, has_below}
+use Rattle.lpod.specs.Lists.{every, some, keep, below}
 use Rattle.lpod.proofs.Lists.{every_at, every_made, keep_in, in_keep, numbers_in}
 use Rattle.lpod.specs.Satisfied.{all_in, some_in, none_in, body_holds}
 use Rattle.words.specs.Coded.{atoms_in, pos_set, neg_set, rule_in}
@@ -26,6 +22,7 @@ use borrow.Author.Tests.{eq-eqb, ne_eqb}
 use Rattle.lanes.specs.Lanes.{turn, column, Block, LowBody}
 use Rattle.lanes.proofs.Words.{full, has_full, has_column, low_six, high_ten}
 use Rattle.lanes.proofs.Columns.{has_xor}
+use Rattle.lanes.proofs.AtomByAtom.{member}
 
 -- ---- the atoms of a list of them are those of the set
 module _ (q : ℕ → Bool) (p : ℕ) where
@@ -41,70 +38,6 @@ and_assoc : (a b c : Bool) → ((a && b) && c) ≡ (a && (b && c))
 and_assoc true b c = refl
 and_assoc false b c = refl
 
-twice : (b : Bool) → (b && b) ≡ (b && true)
-twice true = refl
-twice false = refl
-
--- ---- a number and the one before it have the same bits above the lowest that is set, and below it only the one before has any
-abbrev Shared : ℕ → ℕ → ℕ → Type 0
-Shared p a i = (has p i && has (p - 1) i) ≡ (has p i && not (eqb i a))
-
-shared : (k p : ℕ) → p < 2 ^ k → 0 < p → (i : ℕ) → Shared p (count_trailing_zeros k p) i
-unfolding count_trailing_zeros
-shared zero p h z i = absurd (omega arith)
-shared (suc k) p h z i =
-    go (p % 2) refl (mod-lt p (zero-lt-suc 1)) i
-    (λ e j. let q : p < 2 ^ k * 2 = rw (← pow-suc 2 k) h in shared k (p / 2) (omega arith) (omega arith) j)
-  where
-    go : (d : ℕ) → p % 2 ≡ d → d < 2 → (i : ℕ) → (p % 2 ≡ 0 → (j : ℕ) → Shared (p / 2) (count_trailing_zeros k (p / 2)) j) → Shared p (under d (count_trailing_zeros k (p / 2))) i
-    go zero e l zero ih = rw (has_low p, e)
-    go zero e l (suc i) ih =
-        let d : (p - 1) / 2 ≡ p / 2 - 1 = omega arith in
-        rw (has_next p i, has_next (p - 1) i, d, eqb-suc-suc i (count_trailing_zeros k (p / 2))) (ih e i)
-    go (suc zero) e l zero ih = let d : (p - 1) % 2 ≡ 0 = omega arith in rw (has_low (p - 1), d)
-    go (suc zero) e l (suc i) ih =
-        let d : (p - 1) / 2 ≡ p / 2 = omega arith in
-        rw (has_next p i, has_next (p - 1) i, d, eqb-suc-zero i) (twice (has (p / 2) i))
-    go (suc (suc d)) e l i ih = absurd (omega arith)
-
--- ---- the lowest atom of a set that is not empty, and the set without it, as the code takes it out
-abbrev pub without : ℕ → ℕ
-without p = bit_and p (p - 1)
-
-module _ (p : ℕ) (h : p < 65536) (z : p ≡ 0 → ⊥) (a : ℕ) (e : a ≡ lowest p) where
-  pub lowest_has : T (has p a)
-  lowest_has = subst (λ (x : ℕ). T (has p x)) (sym e) (lowest_in 16 p h (omega arith))
-
-  pub lowest_small : a < 16
-  lowest_small = has_below 16 p a h lowest_has
-
-  pub rest_has : (i : ℕ) → has (without p) i ≡ (has p i && not (eqb i a))
-  rest_has i = has_and p (p - 1) i ∙ shared 16 p h (omega arith) i ∙ ap (λ (x : ℕ). has p i && not (eqb i x)) (sym e)
-
-  rest_part : (i : ℕ) → T (has (without p) i) → T (has p i)
-  rest_part i t = and_l (has p i) (has (p - 1) i) (subst T (has_and p (p - 1) i) t)
-
-  rest_not : T (has (without p) a) → ⊥
-  rest_not t = T_not (eqb a a) (and_r (has p a) (not (eqb a a)) (subst T (rest_has a) t)) (eqb_refl a)
-
-  pub rest_less : (without p) < p
-  rest_less = lt_of_le-ne (inside_le (without p) p rest_part) (λ q. rest_not (subst (λ (x : ℕ). T (has x a)) (sym q) lowest_has))
-
-  rest_made : (i : ℕ) → T (has p i) → (i ≡ a → ⊥) → T (has (without p) i)
-  rest_made i t n = subst T (sym (rest_has i)) (both (has p i) (not (eqb i a)) t (not_T (eqb i a) (λ u. n (eqb→eq i a u))))
-
-  -- what holds of every atom holds of the lowest and of the others
-  module _ (q : ℕ → Bool) where
-    pub atoms_step : every q (atoms_in p) ≡ (q a && every q (atoms_in (without p)))
-    atoms_step =
-        same_yes (every q (atoms_in p)) (q a && every q (atoms_in (without p)))
-        (λ t. both (q a) (every q (atoms_in (without p))) (of_atoms q p h t a lowest_has) (to_atoms q (without p) (λ i u. of_atoms q p h t i (rest_part i u))))
-        (λ t. to_atoms q p (λ i u. go i u (ℕ_discrete i a) (and_l (q a) (every q (atoms_in (without p))) t) (and_r (q a) (every q (atoms_in (without p))) t)))
-      where
-        go : (i : ℕ) → T (has p i) → Dec (i ≡ a) → T (q a) → T (every q (atoms_in (without p))) → T (q i)
-        go i u (yes e) t v = subst (λ (x : ℕ). T (q x)) (sym e) t
-        go i u (no e) t v = of_atoms q (without p) (omega (arith, rest_less)) v i (rest_made i u e)
-
 pub none_every : (l : List ℕ) (s : ℕ) → none_in l s ≡ every (λ a. not (has s a)) l
 unfolding none_in some_in some every
 none_every [] s = refl
@@ -114,47 +47,46 @@ none_every (a ∷ l) s = go (has s a) (none_every l s)
     go true e = refl
     go false e = e
 
--- ---- the words of atoms raised one after the other
-module _ (p : ℕ) (h : p < 65536) (z : p ≡ 0 → ⊥) (k : ℕ) (e : k ≡ lowest p) (w : List ℕ) (few : length w ≡ 16) where
-  pub raise_turn : (a j : ℕ) → a < 16 → j < 64 → (has p a || has (get_or w a 0) j) ≡ (has (without p) a || has (get_or (set w k full) a 0) j)
-  raise_turn a j l m = go (ℕ_discrete a k)
-    where
-      go : Dec (a ≡ k) → (has p a || has (get_or w a 0) j) ≡ (has (without p) a || has (get_or (set w k full) a 0) j)
-      go (yes q) =
-          let t : has p a ≡ true = ap (has p) q ∙ yes_true (has p k) (lowest_has p h z k e) in
-          let f : has (get_or (set w k full) a 0) j ≡ true =
-          ap (λ (i : ℕ). has (get_or (set w k full) i 0) j) q ∙ ap (λ (x : ℕ). has x j) (get_or-set_same w k full 0 (omega (arith, few, lowest_small p h z k e))) ∙ has_full j m in
-          rw (t, f) (sym (or-true (has (without p) a)))
-      go (no n) =
-          rw (rest_has p h z k e a, ne_eqb a k n, get_or-set_other w k a full 0 n) (ap (λ (b : Bool). b || has (get_or w a 0) j) (sym (and-true (has p a))))
+-- ---- the words of atoms raised one after the other: k is the first of those to come
+pub raise_turn : (l rest : List ℕ) (k : ℕ) → l ≡ k ∷ rest → (w : List ℕ) → k < length w → (a j : ℕ) → j < 64
+    → (some (eqb a) l || has (get_or w a 0) j) ≡ (some (eqb a) rest || has (get_or (set w k full) a 0) j)
+unfolding some
+raise_turn l rest k e w s a j m = rw e (go (ℕ_discrete a k))
+  where
+    go : Dec (a ≡ k) → ((eqb a k || some (eqb a) rest) || has (get_or w a 0) j) ≡ (some (eqb a) rest || has (get_or (set w k full) a 0) j)
+    go (yes q) =
+        let f : has (get_or (set w k full) a 0) j ≡ true =
+        ap (λ (i : ℕ). has (get_or (set w k full) i 0) j) q ∙ ap (λ (x : ℕ). has x j) (get_or-set_same w k full 0 s) ∙ has_full j m in
+        rw (eq-eqb a k q, f) (sym (or-true (some (eqb a) rest)))
+    go (no n) = rw (ne_eqb a k n, get_or-set_other w k a full 0 n)
 
-pub raise_end : (p : ℕ) (w : List ℕ) → p ≡ 0 → (a j : ℕ) → (has p a || has (get_or w a 0) j) ≡ has (get_or w a 0) j
-raise_end p w e a j = rw (e, has_zero a)
+-- at the end none is to come: y is what the words say, and x what they said at the start
+pub raise_end : (p a : ℕ) → a < 16 → (l : List ℕ) → l ≡ [] → (x y : Bool) → (some (eqb a) (atoms_in p) || x) ≡ (some (eqb a) l || y) → y ≡ (has p a || x)
+unfolding some
+raise_end p a h l e x y q = rw (member p a h) (sym (q ∙ rw e))
 
--- ---- the loop over atoms, in one lane: y is what is left of the lanes, v the word of the lowest atom, t the lanes that are turned over
-abbrev pub Each : ℕ → Bool → ℕ → Bool
-Each p t s = every (λ a. turn t (has s a)) (atoms_in p)
+-- ---- the lanes that lie in the word of each of these atoms, those of t where it does not: y are the lanes so far, v is the word of the first atom
+abbrev pub Each : List ℕ → Bool → ℕ → Bool
+Each l t s = every (λ a. turn t (has s a)) l
 
-module _ (p : ℕ) (h : p < 65536) (z : p ≡ 0 → ⊥) (a : ℕ) (e : a ≡ lowest p) (w : List ℕ) (v : ℕ) (ev : v ≡ get_or w a 0) (t y j : ℕ) where
-  pub each_turn : (has y j && Each p (has t j) (column w j)) ≡ (has (bit_and y (bit_xor t v)) j && Each (without p) (has t j) (column w j))
-  each_turn =
-      let R : Bool = Each (without p) (has t j) (column w j) in
-      ap (λ (b : Bool). has y j && b)
-      (atoms_step p h z a e (λ i. turn (has t j) (has (column w j) i)) ∙ ap (λ (b : Bool). turn (has t j) b && R) (has_column w j a ∙ ap (λ (x : ℕ). has x j) (sym ev)) ∙ ap (λ (b : Bool). b && R) (sym (has_xor t v j)))
-      ∙ sym (and_assoc (has y j) (has (bit_xor t v) j) R) ∙ ap (λ (b : Bool). b && R) (sym (has_and y (bit_xor t v) j))
+pub each_turn : (l rest : List ℕ) (a : ℕ) → l ≡ a ∷ rest → (w : List ℕ) (v : ℕ) → v ≡ get_or w a 0 → (t y j : ℕ)
+    → (has y j && Each l (has t j) (column w j)) ≡ (has (bit_and y (bit_xor t v)) j && Each rest (has t j) (column w j))
+unfolding every
+each_turn l rest a e w v ev t y j =
+    rw (e, has_column w j a, ← ev, has_and y (bit_xor t v) j, has_xor t v j) (sym (and_assoc (has y j) (turn (has t j) (has v j)) (Each rest (has t j) (column w j))))
 
 -- no atom is left
-pub each_end : (p : ℕ) (t b : Bool) (s : ℕ) → p ≡ 0 → (b && Each p t s) ≡ b
-unfolding every atoms_in keep has numbers
-each_end p t b s e = ap (λ (n : ℕ). b && Each n t s) e ∙ and-true b
+pub each_end : (l : List ℕ) → l ≡ [] → (t b : Bool) (s : ℕ) → (b && Each l t s) ≡ b
+unfolding every
+each_end l e t b s = rw e (and-true b)
 
 -- none is turned over, or all are
-pub each_all : (p s j : ℕ) (b : Bool) → (b && Each p (has 0 j) s) ≡ (b && all_in (atoms_in p) s)
+pub each_all : (p s j : ℕ) (b : Bool) → (b && Each (atoms_in p) (has 0 j) s) ≡ (b && all_in (atoms_in p) s)
 unfolding all_in
-each_all p s j b = ap (λ (t : Bool). b && Each p t s) (has_zero j)
+each_all p s j b = ap (λ (t : Bool). b && Each (atoms_in p) t s) (has_zero j)
 
-pub each_none : (p s j : ℕ) (b : Bool) → j < 64 → (b && Each p (has full j) s) ≡ (b && none_in (atoms_in p) s)
-each_none p s j b l = ap (λ (t : Bool). b && Each p t s) (has_full j l) ∙ ap (λ (c : Bool). b && c) (sym (none_every (atoms_in p) s))
+pub each_none : (p s j : ℕ) (b : Bool) → j < 64 → (b && Each (atoms_in p) (has full j) s) ≡ (b && none_in (atoms_in p) s)
+each_none p s j b l = ap (λ (t : Bool). b && Each (atoms_in p) t s) (has_full j l) ∙ ap (λ (c : Bool). b && c) (sym (none_every (atoms_in p) s))
 
 -- ---- the two parts of a set of atoms p in a set of block b
 module _ (p b j : ℕ) (h : p < 65536) (l : j < 64) where
@@ -259,11 +191,3 @@ low_more rows lows n y k f g i l = go (ℕ_discrete i n)
     go : Dec (i ≡ n) → LowBody (get_or rows i 0) (get_or (set lows n y) i 0)
     go (yes e) = subst (λ (x : ℕ). LowBody (get_or rows x 0) (get_or (set lows n y) x 0)) (sym e) (subst (λ (x : ℕ). LowBody (get_or rows n 0) x) (sym (get_or-set_same lows n y 0 k)) g)
     go (no e) = subst (λ (x : ℕ). LowBody (get_or rows i 0) x) (sym (get_or-set_other lows n i y 0 e)) (f i (omega arith))
-
--- a row and its low part more, in two lists that are filled together
-pub low_both : (rows lows : List ℕ) (n x y : ℕ) → n < length rows → n < length lows → ((i : ℕ) → i < n → LowBody (get_or rows i 0) (get_or lows i 0)) → LowBody x y
-    → (i : ℕ) → i < n + 1 → LowBody (get_or (set rows n x) i 0) (get_or (set lows n y) i 0)
-low_both rows lows n x y h k f g =
-    low_more (set rows n x) lows n y k
-    (λ i l. subst (λ (r : ℕ). LowBody r (get_or lows i 0)) (sym (get_or-set_other rows n i x 0 (λ e. omega arith))) (f i l))
-    (subst (λ (r : ℕ). LowBody r y) (sym (get_or-set_same rows n x 0 h)) g)

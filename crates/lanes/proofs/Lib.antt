@@ -1,4 +1,5 @@
 pub mod Words
+pub mod AtomByAtom
 pub mod Bodies
 pub mod NextBlock
 pub mod Seek

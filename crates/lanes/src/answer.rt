@@ -9,23 +9,23 @@ ghost use Rattle.words.specs.Coded.{rules_in, pair_in, pairs_in, rules_with, pro
 ghost use Rattle.lanes.specs.Lanes as means;
 
 use super::rules::Rules;
+use super::word::Block;
 use super::{close, word};
 
 // The lanes in which the two have the same set.
 fn same(v: &[u64; 16], w: &[u64; 16]) -> u64
-    requires { (length v.now ≡ 16) × (length w.now ≡ 16) }
     ensures { (j : ℕ) → j < 64 → has result j ≡ eqb (means.column v.now j) (means.column w.now j) }
 {
     let mut acc = u64::MAX;
     for k in 0..16 {
-        acc = acc & !(word::at(v, k) ^ word::at(w, k));
+        acc &= !(word::at(v, k) ^ word::at(w, k));
     }
     acc
 }
 
 // The flags in every lane.
 fn flag_words(flags: u16) -> [u64; 16]
-    ensures { (length result ≡ 16) × ((j : ℕ) → j < 64 → means.column result j ≡ flags) }
+    ensures { (j : ℕ) → j < 64 → means.column result j ≡ flags }
 {
     let mut w = [0u64; 16];
     word::raise(flags, &mut w);
@@ -34,7 +34,6 @@ fn flag_words(flags: u16) -> [u64; 16]
 
 // The lanes whose set holds atom a: none where a is 16 or more.
 fn held(w: &[u64; 16], a: u32) -> u64
-    requires { length w.now ≡ 16 }
     ensures { (j : ℕ) → j < 64 → has result j ≡ has (means.column w.now j) a }
 {
     if a < 16 {
@@ -45,7 +44,6 @@ fn held(w: &[u64; 16], a: u32) -> u64
 
 // The lanes whose set holds both atoms of the pair.
 fn pair_held(pair: u16, w: &[u64; 16]) -> u64
-    requires { length w.now ≡ 16 }
     ensures { (j : ℕ) → j < 64 → has result j ≡ (has (means.column w.now j) (pair_in pair).one && has (means.column w.now j) (pair_in pair).other) }
 {
     held(w, (pair % 256) as u32) & held(w, (pair / 256) as u32)
@@ -53,49 +51,47 @@ fn pair_held(pair: u16, w: &[u64; 16]) -> u64
 
 // The lanes of x whose set holds no pair.
 fn no_pair(pairs: &[u16], w: &[u64; 16], x: u64) -> u64
-    requires { length w.now ≡ 16 }
     ensures { (j : ℕ) → j < 64 → has result j ≡ (has x j && no_pair (pairs_in pairs.now) (means.column w.now j)) }
 {
     let mut ok = x;
     for &pair in pairs {
-        ok = ok & !pair_held(pair, w);
+        ok &= !pair_held(pair, w);
     }
     ok
 }
 
 // The lanes of x whose set satisfies every row and is the least set closed under its reduct. A lane is done where its set is reached. Where it is
 // not, nothing more can come once no row waits there, or a pass has added nothing there.
-fn supported(rules: Rules<'_>, flags: u16, b: u16, w: &[u64; 16], x: u64) -> u64
-    requires { (b < 1024) × means.Block b w.now × ((j : ℕ) → j < 64 → T (has x j) → T (inside flags (64 * b + j))) }
-    ensures { (j : ℕ) → j < 64 → has result j ≡ (has x j && (satisfies_all (64 * b + j) (rules_in rules.entry.rows.now) && eqb (least (reduct (rules_with rules.entry.rows.now flags) (64 * b + j))) (64 * b + j))) }
+fn supported(rules: Rules<'_>, flags: u16, block: &Block, x: u64) -> u64
+    requires { (j : ℕ) → j < 64 → T (has x j) → T (inside flags (64 * block.now.number + j)) }
+    ensures { (j : ℕ) → j < 64 → has result j ≡ (has x j && (satisfies_all (64 * block.now.number + j) (rules_in rules.entry.rows.now) && eqb (least (reduct (rules_with rules.entry.rows.now flags) (64 * block.now.number + j))) (64 * block.now.number + j))) }
 {
     let mut ok = x;
     let mut cur = flag_words(flags);
     for _ in 0..16u8 {
-        let p = close::pass(rules, b, w, &mut cur);
-        ok = ok & p.ok;
+        let p = close::pass(rules, block, &mut cur);
+        ok &= p.ok;
         if ok == 0 {
             return 0;
         }
-        let there = same(&cur, w);
+        let there = same(&cur, &block.words);
         let open = ok & !there;
         if open & p.wait & p.grew == 0 {
             return ok & there;
         }
     }
-    ok & same(&cur, w)
+    ok & same(&cur, &block.words)
 }
 
-// The lanes of x whose set is an answer set. The words of block 0 are given.
-pub fn answers(rules: Rules<'_>, zero: &[u64; 16], pairs: &[u16], flags: u16, b: u16, x: u64) -> u64
-    requires { (b < 1024) × means.Block 0 zero.now × ((j : ℕ) → j < 64 → T (has x j) → T (inside flags (64 * b + j))) }
+// The lanes of x whose set is an answer set.
+pub fn answers(rules: Rules<'_>, pairs: &[u16], flags: u16, b: u16, x: u64) -> u64
+    requires { (b < 1024) × ((j : ℕ) → j < 64 → T (has x j) → T (inside flags (64 * b + j))) }
     ensures { (j : ℕ) → j < 64 → has result j ≡ (has x j && answer (program_in rules.entry.rows.now pairs.now flags) (64 * b + j)) }
 {
-    let mut w = *zero;
-    word::to_block(b, &mut w);
-    let ok = no_pair(pairs, &w, x);
+    let block = Block::new(b);
+    let ok = no_pair(pairs, &block.words, x);
     if ok == 0 {
         return 0;
     }
-    supported(rules, flags, b, &w, ok)
+    supported(rules, flags, &block, ok)
 }

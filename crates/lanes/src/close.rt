@@ -9,17 +9,8 @@ ghost use Rattle.lanes.specs.Lanes as means;
 ghost use Rattle.lanes.specs.Pass as goes;
 
 use super::rules::Rules;
-use super::word;
+use super::word::{self, Block};
 use words::row;
-
-// Atom a goes into the sets of the lanes v.
-fn put_in(cur: &mut [u64; 16], a: u32, v: u64)
-    requires { a < 16 }
-    ensures { cur.new ≡ set cur.old a (bit_or (get_or cur.old a 0) v) }
-{
-    let k = a as usize;
-    cur[k] = cur[k] | v;
-}
 
 // What the head of a row says of the lanes: where no head atom is in the set, and where an atom went in that was not there.
 #[derive(Clone, Copy)]
@@ -30,22 +21,19 @@ struct Headed {
 
 // The lanes of t whose set has no head atom. In those of t that fire, the first head atom in the lane's set goes into what is reached there.
 fn head_pass(row: u64, t: u64, fire: u64, w: &[u64; 16], cur: &mut [u64; 16]) -> Headed
-    requires { (length w.now ≡ 16) × (length cur.old ≡ 16) }
-    ensures { (length cur.new ≡ 16) × ((j : ℕ) → j < 64 → has result.none j ≡ (has t j && none_in (rule_in row).head (means.column w.now j))) × ((j : ℕ) → j < 64 → means.column cur.new j ≡ goes.put (rule_in row).head (means.column w.now j) (has t j && has fire j) (means.column cur.old j)) × ((j : ℕ) → j < 64 → has result.grew j ≡ goes.adds (rule_in row).head (means.column w.now j) (has t j && has fire j) (means.column cur.old j)) }
+    ensures { ((j : ℕ) → j < 64 → has result.none j ≡ (has t j && none_in (rule_in row).head (means.column w.now j))) × ((j : ℕ) → j < 64 → means.column cur.new j ≡ goes.put (rule_in row).head (means.column w.now j) (has t j && has fire j) (means.column cur.old j)) × ((j : ℕ) → j < 64 → has result.grew j ≡ goes.adds (rule_in row).head (means.column w.now j) (has t j && has fire j) (means.column cur.old j)) }
 {
     let mut x = t;
-    let mut grew: u64 = 0;
+    let mut grew = 0;
     let mut d = (row / 1099511627776) as u32;
-    let mut left = row::head_count(row);
-    while 0 < left {
+    for _ in 0..row::head_count(row) {
         let a = d % 16;
         let y = word::at(w, a);
         let v = x & fire & y;
-        grew = grew | (v & !word::at(cur, a));
-        put_in(cur, a, v);
-        x = x & !y;
-        d = d / 16;
-        left -= 1;
+        grew |= v & !word::at(cur, a);
+        cur[a as usize] |= v;
+        x &= !y;
+        d /= 16;
     }
     Headed { none: x, grew }
 }
@@ -59,11 +47,11 @@ pub struct Passed {
 }
 
 // One row in the pass. Most bodies hold in no lane of a block.
-fn row_pass(row: u64, low: u64, b: u16, w: &[u64; 16], cur: &mut [u64; 16]) -> Passed
-    requires { (b < 1024) × means.Block b w.now × means.LowBody row low × (length cur.old ≡ 16) }
-    ensures { (length cur.new ≡ 16) × means.Says b result.ok (λ s. satisfies s (rule_in row)) × ((j : ℕ) → j < 64 → has result.wait j ≡ (body_holds (rule_in row) (64 * b + j) && not (all_in (rule_in row).pos (means.column cur.old j)))) × ((j : ℕ) → j < 64 → means.column cur.new j ≡ goes.pass_row (rule_in row) (64 * b + j) (means.column cur.old j)) × ((j : ℕ) → j < 64 → has result.grew j ≡ goes.row_adds (rule_in row) (64 * b + j) (means.column cur.old j)) }
+fn row_pass(row: u64, low: u64, block: &Block, cur: &mut [u64; 16]) -> Passed
+    requires { means.LowBody row low }
+    ensures { means.Says block.now.number result.ok (λ s. satisfies s (rule_in row)) × ((j : ℕ) → j < 64 → has result.wait j ≡ (body_holds (rule_in row) (64 * block.now.number + j) && not (all_in (rule_in row).pos (means.column cur.old j)))) × ((j : ℕ) → j < 64 → means.column cur.new j ≡ goes.pass_row (rule_in row) (64 * block.now.number + j) (means.column cur.old j)) × ((j : ℕ) → j < 64 → has result.grew j ≡ goes.row_adds (rule_in row) (64 * block.now.number + j) (means.column cur.old j)) }
 {
-    let x = word::body(row, low, b);
+    let x = block.body(row, low);
     if x == 0 {
         return Passed {
             ok: u64::MAX,
@@ -72,7 +60,7 @@ fn row_pass(row: u64, low: u64, b: u16, w: &[u64; 16], cur: &mut [u64; 16]) -> P
         };
     }
     let fire = word::all_in((row % 65536) as u16, cur, x);
-    let h = head_pass(row, x, fire, w, cur);
+    let h = head_pass(row, x, fire, &block.words, cur);
     Passed {
         ok: !h.none,
         wait: x & !fire,
@@ -81,18 +69,17 @@ fn row_pass(row: u64, low: u64, b: u16, w: &[u64; 16], cur: &mut [u64; 16]) -> P
 }
 
 // All rows, one after the other.
-pub fn pass(rules: Rules<'_>, b: u16, w: &[u64; 16], cur: &mut [u64; 16]) -> Passed
-    requires { (b < 1024) × means.Block b w.now × (length cur.old ≡ 16) }
-    ensures { (length cur.new ≡ 16) × means.Says b result.ok (λ s. satisfies_all s (rules_in rules.entry.rows.now)) × ((j : ℕ) → j < 64 → has result.wait j ≡ goes.waits (rules_in rules.entry.rows.now) (64 * b + j) (means.column cur.old j)) × ((j : ℕ) → j < 64 → means.column cur.new j ≡ goes.pass (rules_in rules.entry.rows.now) (64 * b + j) (means.column cur.old j)) × ((j : ℕ) → j < 64 → has result.grew j ≡ goes.grows (rules_in rules.entry.rows.now) (64 * b + j) (means.column cur.old j)) }
+pub fn pass(rules: Rules<'_>, block: &Block, cur: &mut [u64; 16]) -> Passed
+    ensures { means.Says block.now.number result.ok (λ s. satisfies_all s (rules_in rules.entry.rows.now)) × ((j : ℕ) → j < 64 → has result.wait j ≡ goes.waits (rules_in rules.entry.rows.now) (64 * block.now.number + j) (means.column cur.old j)) × ((j : ℕ) → j < 64 → means.column cur.new j ≡ goes.pass (rules_in rules.entry.rows.now) (64 * block.now.number + j) (means.column cur.old j)) × ((j : ℕ) → j < 64 → has result.grew j ≡ goes.grows (rules_in rules.entry.rows.now) (64 * block.now.number + j) (means.column cur.old j)) }
 {
     let mut ok = u64::MAX;
     let mut wait = 0;
     let mut grew = 0;
     for (n, &row) in rules.rows.iter().enumerate() {
-        let r = row_pass(row, rules.lows[n], b, w, cur);
-        ok = ok & r.ok;
-        wait = wait | r.wait;
-        grew = grew | r.grew;
+        let r = row_pass(row, rules.lows[n], block, cur);
+        ok &= r.ok;
+        wait |= r.wait;
+        grew |= r.grew;
     }
     Passed { ok, wait, grew }
 }

@@ -8,6 +8,7 @@ mod close;
 mod fill;
 mod heads;
 mod marks;
+mod members;
 mod program;
 mod rank;
 mod ranking;

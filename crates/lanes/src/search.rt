@@ -132,19 +132,16 @@ impl<'a> Ranking<'a> {
     }
 
     // From the set n up: to the least one from block b on that is preferred to it, and so on from there. What the last of them beats loses its mark,
-    // from block b on. The count is there for the loop to end: no way up is so long.
+    // from block b on.
     fn climb(&self, marks: &mut [u64], n: u16, b: u16)
         requires { Searched self.now marks.old × T (inside self.now.span.low b) × T (inside b self.now.span.high) × (b < 1024) × T (marked marks.old n) }
         ensures { Left (beats self.now) marks.old marks.new }
     {
         let mut c = n;
-        for _step in 0..65535 {
-            let Some(k) = self.rival_from(&mut *marks, c, b) else {
-                self.clear_worse(&mut *marks, c, b);
-                return;
-            };
+        while let Some(k) = self.rival_from(&mut *marks, c, b) {
             c = k;
         }
+        self.clear_worse(&mut *marks, c, b);
     }
 
     // From s, to which n is preferred, to the next marked set. s loses its mark; where a set after it is marked, those lose theirs that a champion

@@ -69,23 +69,16 @@ fn mark(p: Program, lows: &mut [u64], marks: &mut [u64])
     requires { (length p.rows.now ≤ length lows.old) × (length marks.old ≡ p.top / 64 + 1) × ((s : ℕ) → marked marks.old s ≡ false) }
     ensures { means.Marked p.entry.rows.now p.entry.pairs.now p.entry.flags p.entry.top marks.new × LowBodies p.entry.rows.now lows.new × (length lows.new ≡ length lows.old) }
 {
-    let zero = word::block_words(0);
-    word::low_bodies(p.rows, &zero, &mut *lows);
+    word::low_bodies(p.rows, &mut *lows);
     let rules = Rules {
         rows: p.rows,
         lows: &*lows,
     };
-    fill::answers(rules, &zero, p.pairs, p.flags, p.top, &mut *marks);
+    fill::answers(rules, p.pairs, p.flags, p.top, &mut *marks);
 }
 
 // Marks the answer sets in words that have no mark, keeps the best where only these are wanted, and lists what is marked.
-fn sets_with(
-    p: Program,
-    which: Which,
-    index: &mut [u32],
-    marks: &mut [u64],
-    out: &mut [u16],
-) -> u32
+fn sets_with(p: Program, which: Which, index: &mut [u32], marks: &mut [u64], out: &mut [u16]) -> u32
     requires { (length marks.old ≡ p.top / 64 + 1) × ((s : ℕ) → marked marks.old s ≡ false) × (length marks.old ≤ length index.old) }
     ensures { means.FoundSays (means.wanted which (program_in p.entry.rows.now p.entry.pairs.now p.entry.flags)) out.old result out.new }
 {
@@ -120,22 +113,26 @@ fn pick_with(p: Program, index: &mut [u32], marks: &mut [u64]) -> Option<u16>
 
 // The sets that are wanted, found in arrays of N words.
 fn sets_in<const N: usize>(p: Program, which: Which, out: &mut [u16]) -> u32
-    requires { (p.top / 64 < N) × (N ≤ 1024) }
+    requires enough { p.top / 64 < N }
+    requires bounded { N ≤ 1024 }
     ensures { means.FoundSays (means.wanted which (program_in p.entry.rows.now p.entry.pairs.now p.entry.flags)) out.old result out.new }
 {
     let mut index = [0u32; N];
     let mut marks = [0u64; N];
-    sets_with(p, which, &mut index, &mut marks[..p.words()], &mut *out)
+    let lent = &mut marks[..p.words()];
+    sets_with(p, which, &mut index, lent, &mut *out)
 }
 
 // The pick, found in arrays of N words.
 fn pick_in<const N: usize>(p: Program) -> Option<u16>
-    requires { (p.top / 64 < N) × (N ≤ 1024) }
+    requires enough { p.top / 64 < N }
+    requires bounded { N ≤ 1024 }
     ensures { means.found result ≡ bests.pick (program_in p.entry.rows.now p.entry.pairs.now p.entry.flags) }
 {
     let mut index = [0u32; N];
     let mut marks = [0u64; N];
-    pick_with(p, &mut index, &mut marks[..p.words()])
+    let lent = &mut marks[..p.words()];
+    pick_with(p, &mut index, lent)
 }
 
 // How many sets there are: all answer sets, or the best of them. Where the lent slice has room for all they stand at its start, rising; else it is

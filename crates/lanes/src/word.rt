@@ -6,6 +6,8 @@ ghost use Rattle.lpod.specs.Satisfied.{all_in, none_in, body_holds};
 ghost use Rattle.words.specs.Coded.{atoms_in, rule_in};
 ghost use Rattle.lanes.specs.Lanes as means;
 
+use super::members::Members;
+
 // The words of the atoms in block 0. Those of the lowest six are the same in every block; each other atom is in all sets of a block or in none.
 const LANES: [u64; 16] = [
     0xAAAA_AAAA_AAAA_AAAA,
@@ -28,33 +30,45 @@ const LANES: [u64; 16] = [
 
 // The words of these atoms get all lanes.
 pub fn raise(raised: u16, w: &mut [u64; 16])
-    requires { length w.old ≡ 16 }
-    ensures { (length w.new ≡ 16) × ((a j : ℕ) → a < 16 → j < 64 → has (get_or w.new a 0) j ≡ (has raised a || has (get_or w.old a 0) j)) }
+    ensures { (a j : ℕ) → a < 16 → j < 64 → has (get_or w.new a 0) j ≡ (has raised a || has (get_or w.old a 0) j) }
 {
-    let mut rest = raised;
-    while rest != 0 {
-        let a = atoms::lowest(rest);
+    for a in (Members { left: raised }) {
         w[a as usize] = u64::MAX;
-        rest = rest & (rest - 1);
     }
 }
 
-// From the words of block 0 to those of block b.
-pub fn to_block(b: u16, w: &mut [u64; 16])
-    requires { (b < 1024) × means.Block 0 w.old }
-    ensures { means.Block b w.new }
-{
-    raise(64 * b, w);
+// A block: its number, and the words of its atoms.
+#[derive(Clone, Copy)]
+pub struct Block {
+    pub number: u16,
+    pub words: [u64; 16],
+    pub ghost small: { number < 1024 },
+    pub ghost made: { means.Block number words },
 }
 
-// The words of block b.
-pub fn block_words(b: u16) -> [u64; 16]
-    requires { b < 1024 }
-    ensures { means.Block b result }
-{
-    let mut w = LANES;
-    to_block(b, &mut w);
-    w
+impl Block {
+    pub fn new(number: u16) -> Block
+        requires { number < 1024 }
+        ensures { result.number ≡ number }
+    {
+        let mut words = LANES;
+        raise(64 * number, &mut words);
+        Block { number, words }
+    }
+
+    // The lanes in which the row's body holds, from those in which its low part does. The other part is the same in the whole block.
+    pub fn body(&self, row: u64, low: u64) -> u64
+        requires { means.LowBody row low }
+        ensures { means.Says self.now.number result (body_holds (rule_in row)) }
+    {
+        if !atoms::part_of((row % 65536 / 64) as u16, self.number) {
+            return 0;
+        }
+        if atoms::common((row / 65536 % 65536 / 64) as u16, self.number) != 0 {
+            return 0;
+        }
+        low
+    }
 }
 
 // The word of atom a.
@@ -67,22 +81,17 @@ pub fn at(w: &[u64; 16], a: u32) -> u64
 
 // The lanes of x that lie in the word of each of these atoms. Lanes of `turned` count where they do not.
 fn in_each(these: u16, w: &[u64; 16], turned: u64, x: u64) -> u64
-    requires { length w.now ≡ 16 }
     ensures { (j : ℕ) → j < 64 → has result j ≡ (has x j && every (λ a. means.turn (has turned j) (has (means.column w.now j) a)) (atoms_in these)) }
 {
     let mut y = x;
-    let mut rest = these;
-    while rest != 0 {
-        let a = atoms::lowest(rest);
-        y = y & (turned ^ at(w, a));
-        rest = rest & (rest - 1);
+    for a in (Members { left: these }) {
+        y &= turned ^ at(w, a);
     }
     y
 }
 
 // The lanes of x whose set holds every atom of `all`.
 pub fn all_in(all: u16, w: &[u64; 16], x: u64) -> u64
-    requires { length w.now ≡ 16 }
     ensures { (j : ℕ) → j < 64 → has result j ≡ (has x j && all_in (atoms_in all) (means.column w.now j)) }
 {
     in_each(all, w, 0, x)
@@ -90,33 +99,19 @@ pub fn all_in(all: u16, w: &[u64; 16], x: u64) -> u64
 
 // The lanes of x whose set holds no atom of `none`.
 pub fn none_in(none: u16, w: &[u64; 16], x: u64) -> u64
-    requires { length w.now ≡ 16 }
     ensures { (j : ℕ) → j < 64 → has result j ≡ (has x j && none_in (atoms_in none) (means.column w.now j)) }
 {
     in_each(none, w, u64::MAX, x)
 }
 
-// The lanes in which the low part of each row's body holds, at the start of the lent slice. The words of block 0 are given.
-pub fn low_bodies(rows: &[u64], zero: &[u64; 16], lows: &mut [u64])
-    requires { means.Block 0 zero.now × (length rows.now ≤ length lows.old) }
+// The lanes in which the low part of each row's body holds, at the start of the lent slice.
+pub fn low_bodies(rows: &[u64], lows: &mut [u64])
+    requires { length rows.now ≤ length lows.old }
     ensures { means.LowBodies rows.now lows.new × (length lows.new ≡ length lows.old) }
 {
+    let zero = Block::new(0);
     for (n, &row) in rows.iter().enumerate() {
-        let x = all_in((row % 64) as u16, zero, u64::MAX);
-        lows[n] = none_in((row / 65536 % 64) as u16, zero, x);
+        let x = all_in((row % 64) as u16, &zero.words, u64::MAX);
+        lows[n] = none_in((row / 65536 % 64) as u16, &zero.words, x);
     }
-}
-
-// The lanes of block b in which the row's body holds, from those in which its low part does. The other part is the same in the whole block.
-pub fn body(row: u64, low: u64, b: u16) -> u64
-    requires { (b < 1024) × means.LowBody row low }
-    ensures { means.Says b result (body_holds (rule_in row)) }
-{
-    if !atoms::part_of((row % 65536 / 64) as u16, b) {
-        return 0;
-    }
-    if atoms::common((row / 65536 % 65536 / 64) as u16, b) != 0 {
-        return 0;
-    }
-    low
 }

@@ -1,8 +1,6 @@
 -- `answer::supported`: the passes in each lane, until each is settled. Assumes nothing.
 use Prim.Native.Nat.{ℕ, ◌+◌, ◌*◌, ◌<◌}
-use mathlib.Core.Path.{◌≡◌}
 use lib.Dec.{T}
-use lib.ListN.{length}
 use Rattle.atoms.specs.Atoms.{has}
 use Rattle.words.specs.Coded.{rules_in}
 use Rattle.lanes.specs.Lanes.{column}
@@ -13,7 +11,6 @@ use Rattle.lanes.proofs.answer.supported.Given as goal
 abbrev pub invariant-loop : goal.invariant-loop
 invariant-loop l =
     record {
-      long : length l.cur ≡ 16;
-      kept : (j : ℕ) → j < 64 → Kept (rules_in l.rules.rows.now) (64 * l.b + j) (has l.x j) l.counter (has l.ok j);
-      come : (j : ℕ) → j < 64 → T (has l.x j) → Come (rules_in l.rules.rows.now) l.flags (64 * l.b + j) l.counter (column l.cur j);
+      kept : (j : ℕ) → j < 64 → Kept (rules_in l.rules.rows.now) (64 * l.block.number + j) (has l.x j) l.counter (has l.ok j);
+      come : (j : ℕ) → j < 64 → T (has l.x j) → Come (rules_in l.rules.rows.now) l.flags (64 * l.block.number + j) l.counter (column l.cur j);
     }

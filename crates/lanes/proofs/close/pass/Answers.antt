@@ -14,7 +14,6 @@ pub loop-n-init : goal.loop-n-init
 unfolding rules_in
 loop-n-init c =
     record {
-      long = c.requires.2;
       ok = λ j l. rw (has_full j l);
       waits = λ j l. rw (has_zero j);
       reached = λ j l. refl;
@@ -28,15 +27,14 @@ loop-n-preserved c =
     let k = h.invariant in
     let e = rest_step rule_in c.args.rules.rows.now h.n (omega arith) _ refl in
     record {
-      long = r.ensures.0;
-      ok = λ j l. k.ok j l ∙ ok_turn e (64 * c.args.b + j) j h.ok _ (r.ensures.1 j l);
-      waits = λ j l. k.waits j l ∙ wait_turn e (64 * c.args.b + j) j (column h.cur j) _ (r.ensures.3 j l) h.wait _ (r.ensures.2 j l);
-      reached = λ j l. k.reached j l ∙ pass_turn e (64 * c.args.b + j) j (column h.cur j) _ (r.ensures.3 j l);
-      grows = λ j l. k.grows j l ∙ grow_turn e (64 * c.args.b + j) j (column h.cur j) _ (r.ensures.3 j l) h.grew _ (r.ensures.4 j l);
+      ok = λ j l. k.ok j l ∙ ok_turn e (64 * c.args.block.now.number + j) j h.ok _ (r.ensures.0 j l);
+      waits = λ j l. k.waits j l ∙ wait_turn e (64 * c.args.block.now.number + j) j (column h.cur j) _ (r.ensures.2 j l) h.wait _ (r.ensures.1 j l);
+      reached = λ j l. k.reached j l ∙ pass_turn e (64 * c.args.block.now.number + j) j (column h.cur j) _ (r.ensures.2 j l);
+      grows = λ j l. k.grows j l ∙ grow_turn e (64 * c.args.block.now.number + j) j (column h.cur j) _ (r.ensures.2 j l) h.grew _ (r.ensures.3 j l);
     }
 
 pub returns : goal.returns
 returns c =
     let k = c.loop-n.invariant in
     let e = rest_none rule_in c.args.rules.rows.now c.loop-n.n (omega arith) in
-    (k.long, λ j l. sym (k.ok j l ∙ ok_end e _ _), λ j l. sym (k.waits j l ∙ wait_end e _ _ _), λ j l. sym (k.reached j l ∙ pass_end e _ _), λ j l. sym (k.grows j l ∙ grow_end e _ _ _))
+    (λ j l. sym (k.ok j l ∙ ok_end e _ _), λ j l. sym (k.waits j l ∙ wait_end e _ _ _), λ j l. sym (k.reached j l ∙ pass_end e _ _), λ j l. sym (k.grows j l ∙ grow_end e _ _ _))

@@ -13,18 +13,18 @@ pub loop-b-init : goal.loop-b-init
 loop-b-init c =
     let a = c.args in
     record {
-      long = c.requires.2;
+      long = c.requires.1;
       small = c.ranges.top.fits;
       most = omega arith;
-      between = λ l. (inside_self (a.flags / 64), inside_high a.flags a.top c.requires.1);
-      filled = filled_none (answer (program_in a.rules.rows.now a.pairs.now a.flags)) a.flags a.top a.marks.now c.requires.3;
+      between = λ l. (inside_self (a.flags / 64), inside_high a.flags a.top c.requires.0);
+      filled = filled_none (answer (program_in a.rules.rows.now a.pairs.now a.flags)) a.flags a.top a.marks.now c.requires.2;
     }
 
 pub answers-requires : goal.answers-requires
 answers-requires c =
     let h = c.loop-b in
     let l : h.b < 1024 = omega arith in
-    (l, c.requires.0, lane_flags c.args.flags c.args.top h.b _ (h.invariant.between l).0 c.between-x.ensures)
+    (l, lane_flags c.args.flags c.args.top h.b _ (h.invariant.between l).0 c.between-x.ensures)
 
 pub next_block-b-requires : goal.next_block-b-requires
 next_block-b-requires c =

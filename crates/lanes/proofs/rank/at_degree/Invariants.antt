@@ -3,4 +3,4 @@ use Rattle.lanes.proofs.Levels.{Leveled}
 use Rattle.lanes.proofs.rank.at_degree.Given as goal
 
 abbrev pub invariant-loop-n : goal.invariant-loop-n
-invariant-loop-n l = Leveled l.rules.rows.now l.grades l.b l.k l.n l.up l.down
+invariant-loop-n l = Leveled l.rules.rows.now l.grades l.block.number l.k l.n l.up l.down

@@ -11,4 +11,4 @@ use Rattle.lanes.proofs.rank.exact.Given as goal
 
 abbrev pub invariant-loop-p : goal.invariant-loop-p
 invariant-loop-p l =
-    (j : ℕ) → j < 64 → eqb (degree (64 * l.b + j) (rule_in l.word)) l.k ≡ (has l.t j && eqb (place l._p (digits (l.n + 1 - l._p) l.d) (64 * l.b + j)) l.k)
+    (j : ℕ) → j < 64 → eqb (degree (64 * l.block.number + j) (rule_in l.word)) l.k ≡ (has l.t j && eqb (place l._p (digits (l.n + 1 - l._p) l.d) (64 * l.block.number + j)) l.k)

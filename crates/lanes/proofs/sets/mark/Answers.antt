@@ -10,7 +10,7 @@ pub answers-requires : goal.answers-requires
 answers-requires c =
     let p = c.args.p in
     let w : p.flags < 65536 = omega arith in
-    (c.block_words-zero.ensures, flags_top p.rows.now p.pairs.now p.flags w p.top p.highest, c.requires.1, c.requires.2)
+    (flags_top p.rows.now p.pairs.now p.flags w p.top p.highest, c.requires.1, c.requires.2)
 
 pub returns : goal.returns
 returns c =

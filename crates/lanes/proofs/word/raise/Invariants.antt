@@ -2,12 +2,17 @@
 use Prim.Native.Nat.{ℕ, ◌<◌}
 use mathlib.Core.Path.{◌≡◌}
 use mathlib.Core.Bool.{◌||◌}
+use lib.Dec.{eqb}
 use lib.ListN.{length, get_or}
 use Rattle.atoms.specs.Atoms.{has}
+use Rattle.lpod.specs.Lists.{some}
+use Rattle.words.specs.Coded.{atoms_in}
 use Rattle.lanes.proofs.word.raise.Given as goal
 
-abbrev pub invariant-loop-rest : goal.invariant-loop-rest
-invariant-loop-rest l = (l.rest < 65536) × (length l.w ≡ 16) × ((a j : ℕ) → a < 16 → j < 64 → (has l.raised a || has (get_or l.initial.w a 0) j) ≡ (has l.rest a || has (get_or l.w a 0) j))
-
-abbrev pub decreases-loop-rest : goal.decreases-loop-rest
-decreases-loop-rest l = l.rest
+-- the atoms to come, over the words so far, are all that are raised over the words at the start
+abbrev pub invariant-loop-a : goal.invariant-loop-a
+invariant-loop-a l =
+    record {
+      long : length l.w ≡ 16;
+      raised : (a j : ℕ) → j < 64 → (some (eqb a) (atoms_in l.raised) || has (get_or l.initial.w a 0) j) ≡ (some (eqb a) (atoms_in l.a-iterator.left) || has (get_or l.w a 0) j);
+    }
