@@ -78,13 +78,7 @@ fn mark(p: Program, lows: &mut [u64], marks: &mut [u64])
 }
 
 // Marks the answer sets in words that have no mark, keeps the best where only these are wanted, and lists what is marked.
-fn sets_with(
-    p: Program,
-    which: Which,
-    index: &mut [u32],
-    marks: &mut [u64],
-    out: &mut [u16],
-) -> u32
+fn sets_with(p: Program, which: Which, index: &mut [u32], marks: &mut [u64], out: &mut [u16]) -> u32
     requires { (length marks.old ≡ p.top / 64 + 1) × ((s : ℕ) → marked marks.old s ≡ false) × (length marks.old ≤ length index.old) }
     ensures { means.FoundSays (means.wanted which (program_in p.entry.rows.now p.entry.pairs.now p.entry.flags)) out.old result out.new }
 {

@@ -17,7 +17,7 @@ use Rattle.lpod.specs.Satisfied.{all_in, some_in, none_in, body_holds, satisfies
 use Rattle.lpod.specs.HereThere.{head_holds, row_holds, model, no_smaller}
 use Rattle.lpod.proofs.Lists.{every_at, every_made, every_append, numbers_in, in_numbers}
 use Rattle.words.specs.Coded.{rules_in, rules_with}
-use Rattle.routes.proofs.FourTests.{raised_every}
+use Rattle.routes.proofs.RaisedRows.{raised_every}
 
 -- a head by its first atom in I
 pub by_first : (cs : List ℕ) (H I : ℕ) (r : Bool) → MatchOption (find (has I) cs) (r ≡ false) (λ a. r ≡ has H a) → r ≡ head_holds cs H I

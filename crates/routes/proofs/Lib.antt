@@ -1,5 +1,5 @@
 pub mod Rounds
-pub mod FourTests
+pub mod RaisedRows
 pub mod HeadFirst
 pub mod HeadsHold
 pub mod Verdicts

@@ -3,25 +3,25 @@
 -- Assumes nothing.
 use mathlib.Core.Path.{◌≡◌, refl, sym, ap, ◌∙◌, subst}
 use mathlib.Core.List.{List, [], ◌∷◌, map}
-use Prim.Native.Nat.{ℕ, suc, ◌+◌, ◌≤◌, ◌<◌}
+use Prim.Native.Nat.{ℕ, suc, ◌+◌, ◌^◌, ◌≤◌, ◌<◌}
 use native.Mathlib.Decide.{ℕ_discrete}
 use native.Mathlib.Numerals.{add-one}
 use native.Mathlib.Omega.{arith}
 use lib.Arith.{lt_of_le-ne}
 use Rattle.std.specs.List.{fold}
-use Rattle.atoms.specs.Atoms.{Inside, how_many}
+use Rattle.atoms.specs.Atoms.{Inside, how_many, union, common}
 use Rattle.atoms.proofs.Bits.{inside_le}
 use Rattle.atoms.proofs.Count.{many_more}
 use Rattle.lpod.specs.Lists.{gather}
-use Rattle.lpod.specs.Rule.{Rule}
+use Rattle.lpod.specs.Rule.{Rule, rules}
 use Rattle.lpod.specs.Reduct.{Definite, reduct_row, reduct}
 use Rattle.lpod.specs.Least.{fire, rounds, least, Closed}
 use Rattle.lpod.specs.Chain.{chain}
 use Rattle.lpod.proofs.LeastClosed.{fire_keeps, fire_inside, rounds_inside, empty_inside, closed_fixed, fixed_closed, is_least}
 use Rattle.lpod.proofs.Chains.{Quiet, Each, rounds_next, one_more, chain_found, grown}
-use Rattle.lpod.proofs.Firing.{fire_append}
+use Rattle.lpod.proofs.Firing.{fire_append, fire_rules}
 use Rattle.lpod.proofs.ReductIsHereThere.{self_closed}
-use Rattle.words.specs.Coded.{rule_in, rules_in}
+use Rattle.words.specs.Coded.{rule_in, rules_in, rules_with, program_in}
 
 -- ---- the rows let fire one after the other
 pub all_fire : (rows : List ℕ) (I s t : ℕ) → fold (λ t w. fire (reduct_row (rule_in w) I) s t) t rows ≡ fire (reduct (rules_in rows) I) s t
@@ -30,12 +30,15 @@ all_fire [] I s t = refl
 all_fire (w ∷ rows) I s t =
     all_fire rows I s (fire (reduct_row (rule_in w) I) s t) ∙ sym (fire_append (reduct_row (rule_in w) I) (gather (λ r. reduct_row r I) (map rule_in rows)) s t)
 
+-- the rows, then those of the raised atoms
+pub fire_flags : (rows : List ℕ) (flags I s t : ℕ) → flags < 2 ^ 16
+    → union (fire (reduct (rules_in rows) I) s t) (common flags I) ≡ fire (reduct (rules_with rows flags) I) s t
+unfolding rules rules_with program_in
+fire_flags rows flags I s t w = fire_rules (program_in rows [] flags) I s t _ w refl
+
 -- ---- until nothing is added
 abbrev pub Smallest : List Definite → ℕ → Type 0
 Smallest D s = (c : ℕ) → Closed D c → Inside s c
-
-pub small_start : (D : List Definite) (s : ℕ) → s ≡ 0 → Smallest D s
-small_start D s e c k = subst (λ (x : ℕ). Inside x c) (sym e) (empty_inside c)
 
 module _ (D : List Definite) (s t : ℕ) (e : t ≡ fire D s s) where
   pub small_round : Smallest D s → Smallest D t

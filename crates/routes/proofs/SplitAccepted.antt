@@ -4,10 +4,10 @@ use Rattle.std.specs.Prelude.{Result, Ok, Err, IsErrAnd}
 use mathlib.Core.Path.{◌≡◌, refl, sym, ap, ◌∙◌}
 use mathlib.Core.Bool.{Bool, true, false, cond}
 use mathlib.Core.List.{List, [], ◌∷◌}
-use Prim.Native.Nat.{ℕ, zero, suc, ◌≤◌}
+use Prim.Native.Nat.{ℕ, zero, suc}
 use native.Mathlib.Omega.{arith}
 use lib.Dec.{ltb, eqb}
-use borrow.Author.Tests.{ltb-false, ne_eqb}
+use borrow.Author.Tests.{ne_eqb}
 use Rattle.lpod.specs.Rule.{Rule}
 use Rattle.lpod.specs.Split.{split_number, split_count}
 use Rattle.page.specs.Program.{program}
@@ -55,9 +55,6 @@ module _ (page : List ℕ) (flags set : ℕ) where
     counted_splits t n e = says (Ok n) (given 0 _ _ (ap (λ b. cond b 12 0) (sym t) ∙ the_number) n e)
 
   -- the words of the page say whether there are too many
-  module _ (z : 0 ≡ lists.test_no page flags set) (rows : List ℕ) (er : rows ≡ row_words page) (b : Bool) (eb : b ≡ ltb 4096 (split_number (rules_in rows))) where
-    pub many_words : b ≡ too_many page flags
-    many_words = eb ∙ ap (λ (P : List Rule). ltb 4096 (split_number P)) (lent_rows page (test_page page flags set z) rows er) ∙ sym (too_many_rows page flags)
-
-    pub rows_few : b ≡ false → split_number (rules_in rows) ≤ 4096
-    rows_few t = ltb-false 4096 (split_number (rules_in rows)) (sym eb ∙ t)
+  pub many_words : 0 ≡ lists.test_no page flags set → (rows : List ℕ) → rows ≡ row_words page → (b : Bool) → b ≡ ltb 4096 (split_number (rules_in rows)) → b ≡ too_many page flags
+  many_words z rows er b eb =
+      eb ∙ ap (λ (P : List Rule). ltb 4096 (split_number P)) (lent_rows page (test_page page flags set z) rows er) ∙ sym (too_many_rows page flags)

@@ -154,8 +154,10 @@ module _ (flags s : ℕ) (rows rest : List ℕ) (row : ℕ) (e : rows ≡ row �
   abbrev pub with_row : ℕ → ℕ
   with_row = with_option flags s (rule_in row) (rules_in rest) (all_chosen choice)
 
-  pub rows_step : count_from (rules_in rows) flags s (all_chosen choice) ≡ sum_below (max 1 (length (rule_in row).head)) with_row
-  rows_step = rw (rows_first rows rest row e) (count_step flags s (rule_in row) (rules_in rest) (all_chosen choice))
+  -- the sum over all options is the whole count
+  pub rows_counted : (k : ℕ) → k ≡ max 1 (length (rule_in row).head) → (r : ℕ) → r ≡ sum_below k with_row → r ≡ count_from (rules_in rows) flags s (all_chosen choice)
+  rows_counted k ek r er =
+      er ∙ rw (ek, rows_first rows rest row e) (sym (count_step flags s (rule_in row) (rules_in rest) (all_chosen choice)))
 
   pub rows_room : (k : ℕ) → k < max 1 (length (rule_in row).head) → sum_below k with_row + with_row k ≤ split_number (rules_in rows)
   rows_room k l = rw (rows_first rows rest row e) (count_room flags s (rule_in row) (rules_in rest) (all_chosen choice) k l)

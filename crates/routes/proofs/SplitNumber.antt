@@ -4,7 +4,7 @@ use mathlib.Core.Path.{◌≡◌, refl, sym, ◌∙◌}
 use mathlib.Core.Bool.{true, false}
 use mathlib.Core.List.{List, [], ◌∷◌, ◌++◌, map}
 use Prim.Native.Nat.{ℕ, ◌+◌, ◌*◌, ◌≤◌, ◌<◌, max}
-use native.Mathlib.Nat.{mul_assoc, mul-one, one-mul, mul-pos, mul-le-mul, le-mul_of_pos_right, mul_comm}
+use native.Mathlib.Nat.{mul_assoc, mul-one, one-mul, mul-pos, le-mul_of_pos_right, mul_comm}
 use native.Mathlib.Omega.{arith}
 use lib.Dec.{ltb}
 use lib.ListN.{length, get_or, drop}
@@ -81,10 +81,6 @@ module _ (rows : List ℕ) (n number : ℕ) (e : split_number (rules_in rows) �
 pub number_over : (rows : List ℕ) (n number options : ℕ) → split_number (rules_in rows) ≡ number * split_number (map rule_in (drop n rows)) → n < length rows
     → options ≡ max 1 (length (rule_in (get_or rows n 0)).head) → 4096 < number * options → true ≡ ltb 4096 (split_number (rules_in rows))
 number_over rows n number options e h eo l = number_stop rows (n + 1) (number * options) (number_next rows n number e options h eo) l
-
--- so it stays small enough to be multiplied once more
-pub number_small : (number options : ℕ) → number ≤ 4096 → options < 256 → number * options ≤ 4096 * 255
-number_small number options h l = mul-le-mul {m₂ = 255} h (omega arith)
 
 pub too_many_rows : (page : List ℕ) (flags : ℕ) → too_many page flags ≡ ltb 4096 (split_number (rows_of page))
 unfolding too_many

@@ -52,11 +52,10 @@ flags_fire flags set s t h =
     same_atoms _ (union t flags) (λ i. given_atoms (keep (has flags) (below 16)) set s t i ∙ rw (listed flags i h) (sym (has_or t flags i)))
 
 -- the whole round: the rows' options, then the flags
-pub round_flags : (l : List Chosen) (flags set s t : ℕ) → flags < 2 ^ 16 → t ≡ fold (λ t c. fire (gl_row set (chosen c)) s t) s l
-    → union t flags ≡ fire (gl_reduct (program_of l flags) set) s s
+pub round_flags : (l : List Chosen) (flags set s t : ℕ) → flags < 2 ^ 16
+    → union (fire (gl_reduct (all_chosen l) set) s t) flags ≡ fire (gl_reduct (program_of l flags) set) s t
 unfolding program_of
-round_flags l flags set s t h e =
-    sym (fire_joined (all_chosen l) (flag_options flags) set s s ∙ flags_fire flags set s _ h ∙ rw (← all_fire l set s s, ← e))
+round_flags l flags set s t h = sym (fire_joined (all_chosen l) (flag_options flags) set s t ∙ flags_fire flags set s _ h)
 
 -- ---- the rows without head
 bars_flags : (l : List ℕ) (s : ℕ) → every (bar_holds s) (map (λ a. gives a [] []) l) ≡ true

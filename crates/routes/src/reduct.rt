@@ -15,7 +15,7 @@ use page::refusal::Refusal;
 use words::{read, row, rows};
 
 // What one row adds to t: its rule of the reduct for `set`, if it has one and the positive body is in s. The cheap tests come first.
-#[tactic(auto, using(crate::proofs::HeadFirst::fire_blocked, crate::proofs::HeadFirst::fire_waits, crate::proofs::HeadFirst::fire_first))]
+#[tactic(auto, using(crate::proofs::HeadFirst::fire_blocked, crate::proofs::HeadFirst::fire_waits))]
 fn row_fire(row: u64, set: u16, s: u16, t: u16) -> u16
     ensures { result ≡ means.fire (reduct_row (rule_in row) set) s t }
 {
@@ -33,6 +33,7 @@ fn rows_fire(rows: &[u64], set: u16, s: u16) -> u16
 }
 
 // One round: the rows, and the rows of the raised atoms. Such a row has its rule in the reduct where `set` holds the atom.
+#[tactic(auto, using(crate::proofs::Rounds::fire_flags))]
 fn round(rows: &[u64], flags: u16, set: u16, s: u16) -> u16
     ensures { result ≡ means.fire (reduct (rules_with rows.now flags) set) s s }
 {
@@ -41,6 +42,7 @@ fn round(rows: &[u64], flags: u16, set: u16, s: u16) -> u16
 
 // The least set closed under the reduct for `set`. It lies inside `set`, so the rounds stop there, or when nothing is added.
 // A round that adds something adds an atom of the set, so there are at most 16 rounds.
+#[tactic(auto, using(lpod::proofs::LeastClosed::empty_inside, crate::proofs::Rounds::small_round, crate::proofs::Rounds::small_fixed, crate::proofs::Rounds::small_grows, crate::proofs::Rounds::small_whole))]
 pub fn least_of(rows: &[u64], flags: u16, set: u16) -> u16
     ensures { result ≡ means.least (reduct (rules_with rows.now flags) set) }
 {
@@ -56,7 +58,7 @@ pub fn least_of(rows: &[u64], flags: u16, set: u16) -> u16
 }
 
 // The four tests of an answer set, in this order: no pair, rows, raised flags, support.
-#[tactic(auto, using(crate::proofs::FourTests::satisfied_flags), unfolding(lpod::specs::Answer::answer, lpod::specs::Rule::rules, words::specs::Coded::rules_with, words::specs::Coded::program_in))]
+#[tactic(auto, using(crate::proofs::RaisedRows::satisfied_flags), unfolding(lpod::specs::Answer::answer, lpod::specs::Rule::rules, words::specs::Coded::rules_with, words::specs::Coded::program_in))]
 pub fn is_answer(rows: &[u64], pairs: &[u16], flags: u16, set: u16) -> bool
     ensures { result ≡ answer (program_in rows.now pairs.now flags) set }
 {
@@ -78,6 +80,7 @@ pub fn reduct_test(page: &[u8], flags: u16, set: u16) -> Result<bool, Refusal>
 
 // How many rounds from the empty set add something. Each brings in an atom of `set`, so there are no more of them than the set has atoms;
 // after as many the set itself is reached, to which nothing is added.
+#[tactic(auto, using(crate::proofs::Rounds::made_start, crate::proofs::Rounds::made_quiet, crate::proofs::Rounds::made_whole))]
 fn count_rounds(rows: &[u64], flags: u16, set: u16) -> u32
     ensures { result ≡ chain (reduct (rules_with rows.now flags) set) }
 {

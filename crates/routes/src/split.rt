@@ -21,7 +21,7 @@ fn option_count(row: u64) -> u8
 
 // There are more than 4,096 split programs. Their number is the product of the option counts; it needs up to 83 bits, so that
 // counting stops above 4,096. A flag's row has one option.
-#[tactic(auto, using(crate::proofs::SplitNumber::number_over))]
+#[tactic(auto, using(crate::proofs::SplitNumber::number_first, crate::proofs::SplitNumber::number_next, crate::proofs::SplitNumber::number_over, crate::proofs::SplitNumber::number_end))]
 fn too_many(rows: &[u64]) -> bool
     ensures { result ≡ ltb 4096 (split_number (rules_in rows.now)) }
 {
@@ -77,6 +77,7 @@ fn round(choice: &[Chosen], flags: u16, set: u16, s: u16) -> u16
 }
 
 // The least set closed under the split program that is chosen: rounds from the empty set until one adds nothing, at most 17.
+#[tactic(auto, using(lpod::proofs::LeastClosed::empty_inside, crate::proofs::Rounds::small_round, crate::proofs::Rounds::small_fixed, crate::proofs::Rounds::small_grows))]
 fn least_closed(choice: &[Chosen], flags: u16, set: u16) -> u16
     ensures { result ≡ least (gl_reduct (choices.program_of choice.now flags) set) }
 {
@@ -125,6 +126,7 @@ fn count_from(rows: &[u64], flags: u16, set: u16, choice: &mut ArrayVec<Chosen, 
 }
 
 // How many split programs have the set as answer set. Pairs are checked on the set.
+#[tactic(auto, using(crate::proofs::SplitChoices::count_whole, crate::proofs::SplitChoices::count_paired), unfolding(crate::specs::Choice::all_chosen))]
 fn split_count(rows: &[u64], pairs: &[u16], flags: u16, set: u16) -> u16
     requires { (length rows.now ≤ 32) × (split_number (rules_in rows.now) ≤ 4096) }
     ensures { result ≡ split_count (program_in rows.now pairs.now flags) set }

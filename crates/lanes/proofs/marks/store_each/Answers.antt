@@ -1,7 +1,7 @@
 -- `marks::store_each` goes from bit to bit: each is a run of one. Assumes nothing.
 use Rattle.std.proofs.Common.{◌+◌, arith}
 use lib.Count.{count_trailing_zeros}
-use Rattle.lanes.proofs.Runs.{to_store, one_here, run_room, run_turn, one_stored, one_left, all_stored}
+use Rattle.lanes.proofs.Runs.{one_here, run_room, run_turn, one_stored, one_left, all_stored}
 use Rattle.lanes.proofs.marks.store_each.Goals as goal
 
 pub overflow_cast-out : goal.overflow_cast-out

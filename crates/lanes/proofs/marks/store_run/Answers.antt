@@ -1,6 +1,6 @@
 -- `marks::store_run` counts up. What is kept: the numbers that are left, stored from their place on, leave what all of them do. Assumes nothing.
-use mathlib.Core.Path.{◌≡◌, refl, sym, ◌∙◌}
-use Prim.Native.Nat.{◌+◌, ◌-◌}
+use mathlib.Core.Path.{◌≡◌, sym, ◌∙◌}
+use Prim.Native.Nat.{◌+◌}
 use native.Mathlib.Omega.{arith}
 use lib.ListN.{length-set}
 use Rattle.lanes.proofs.Stored.{run_more, run_done}

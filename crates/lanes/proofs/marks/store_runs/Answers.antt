@@ -1,6 +1,6 @@
 -- `marks::store_runs` goes from run to run. Assumes nothing.
 use Rattle.std.proofs.Common.{arith}
-use Rattle.lanes.proofs.Runs.{to_store, run_here, run_room, run_turn, all_stored}
+use Rattle.lanes.proofs.Runs.{run_here, run_room, run_turn, all_stored}
 use Rattle.lanes.proofs.marks.store_runs.Goals as goal
 
 pub store_run-requires : goal.store_run-requires

@@ -4,7 +4,7 @@ use mathlib.Core.Path.{refl, ◌∙◌}
 use native.Mathlib.Omega.{arith}
 use lib.ListN.{length-set}
 use Rattle.atoms.proofs.Bits.{inside_test}
-use Rattle.lanes.proofs.Index.{index_first, index_more, index_all, index_full}
+use Rattle.lanes.proofs.Index.{index_first, index_more, index_full}
 use Rattle.lanes.proofs.search.indexes.Goals as goal
 
 pub returns-then-marks-eq1 : goal.returns-then-marks-eq1

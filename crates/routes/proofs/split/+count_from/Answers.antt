@@ -1,10 +1,9 @@
 -- `count_from` calls itself for the rows after the first. Without rows it tests the choice; else it adds up the counts with each option of the first
 -- row. The total is no more than the number of split programs, so that it fits. Assumes nothing.
-use Rattle.std.proofs.Common.{◌≡◌, max, length, refl, sym, ap, ◌∙◌, arith}
-use Rattle.words.specs.Coded.{rule_in}
+use Rattle.std.proofs.Common.{◌≡◌, length, refl, ap, ◌∙◌, arith}
 use Rattle.routes.specs.Choice.{all_chosen, program_of}
 use Rattle.routes.proofs.SplitSums.{sum_below, below_more}
-use Rattle.routes.proofs.SplitChoices.{count_end, with_row, rows_step, rows_room, rows_fewer, row_counted, popped}
+use Rattle.routes.proofs.SplitChoices.{count_end, with_row, rows_counted, rows_room, rows_fewer, row_counted, popped}
 use Rattle.routes.proofs.split.+count_from.Goals as goal
 
 pub returns-in_default-clause-count : goal.returns-in_default-clause-count
@@ -50,6 +49,4 @@ returns-clause-count t c =
     let a = c.args in
     let h = c.loop-option in
     let rows = c.in-Some.ensures.cases in
-    let e : h.option ≡ max 1 (length (rule_in c.in-Some.field-0-0.now).head) = omega (arith, c.option_count-option-end.ensures) in
-    h.invariant.counted ∙ ap (λ m. sum_below m (with_row a.flags a.set _ _ _ rows.0 a.choice.now.items)) e
-    ∙ sym (rows_step a.flags a.set _ _ _ rows.0 a.choice.now.items)
+    rows_counted a.flags a.set _ _ _ rows.0 a.choice.now.items h.option (omega (arith, c.option_count-option-end.ensures)) _ h.invariant.counted

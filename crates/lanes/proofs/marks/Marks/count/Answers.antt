@@ -1,7 +1,6 @@
 -- `marks::Marks::count` goes from block to block. What is kept: the sets counted, with those from block b on, are all, and block b lies between low and
 -- high where it is one. Past the last word no set is marked. Assumes nothing.
 use mathlib.Core.Path.{ap}
-use Prim.Native.Nat.{◌<◌}
 use native.Mathlib.Omega.{arith}
 use lib.Count.{ones-le}
 use lib.ListN.{length, get_or}

@@ -1,13 +1,10 @@
 -- `marks::Marks::from_block` goes from block to block. What is kept: the least marked set from block b on is the least from block c on, and block c lies
 -- between low and high where it is one. Past the last word no set is marked. Assumes nothing.
-use mathlib.Core.Path.{refl, sym, ◌∙◌}
-use Prim.Native.Nat.{◌*◌, ◌^◌, ◌<◌}
+use mathlib.Core.Path.{sym, ◌∙◌}
+use Prim.Native.Nat.{◌*◌}
 use native.Mathlib.Omega.{arith}
-use Rattle.std.proofs.Common.{rules}
-use lib.Count.{trailing_le}
-use lib.ListN.{get_or}
 use Rattle.lanes.proofs.Seek.{next_none}
-use Rattle.lanes.proofs.Marked.{word_none, trailing_below, word_first, next_on_block, none_past}
+use Rattle.lanes.proofs.Marked.{word_none, word_first, next_on_block, none_past}
 use Rattle.lanes.proofs.marks.Marks.from_block.Goals as goal
 
 pub returns-then-x-ne0 : goal.returns-then-x-ne0

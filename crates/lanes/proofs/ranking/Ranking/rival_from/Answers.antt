@@ -9,7 +9,6 @@ use lib.ListN.{length}
 use Rattle.atoms.proofs.Truth.{true_yes}
 use Rattle.lanes.specs.Left.{rival, Cleared, beats}
 use Rattle.lanes.proofs.Seek.{NoneBetween, next_none}
-use Rattle.lanes.proofs.Marked.{trailing_below}
 use Rattle.lanes.proofs.Scan.{word_none, word_first, scan_on, scan_end}
 use Rattle.lanes.proofs.Index.{none_first, no_rival}
 use Rattle.lanes.proofs.Clearing.{clear_none, clear_more, rivals_before}
