@@ -49,7 +49,11 @@ fn keep_wanted(rules: Rules, span: Span, which: Which, index: &mut [u32], marks:
     }
     let mut kept = Kept::none();
     kept.add_ranking(rules);
-    let ranking = Ranking::new(kept.rules(), span, &*marks, &mut *index);
+    let all = Marks {
+        words: &*marks,
+        span,
+    };
+    let ranking = Ranking::new(kept.rules(), all, &mut *index);
     ranking.keep_best(&mut *marks);
 }
 
@@ -60,7 +64,11 @@ fn first_best(rules: Rules, span: Span, index: &mut [u32], marks: &mut [u64]) ->
 {
     let mut kept = Kept::none();
     kept.add_ranking(rules);
-    let ranking = Ranking::new(kept.rules(), span, &*marks, &mut *index);
+    let all = Marks {
+        words: &*marks,
+        span,
+    };
+    let ranking = Ranking::new(kept.rules(), all, &mut *index);
     ranking.first_best(&mut *marks)
 }
 
