@@ -1,5 +1,4 @@
 -- `sets::pick`: the program is of the first 32 rows. Assumes nothing.
-use mathlib.Core.Path.{ap, ◌∙◌}
 use Rattle.lanes.specs.Sets.{program_of}
 use Rattle.lanes.proofs.sets.pick.Goals as goal
 

@@ -1,5 +1,4 @@
 -- `sets::pick_in` lends as many words as there are blocks up to top. Assumes nothing.
-use mathlib.Core.Path.{sym}
 use Prim.Native.Nat.{◌+◌, ◌/◌}
 use native.Mathlib.Omega.{arith}
 use Rattle.lanes.proofs.Listed.{lent_words}

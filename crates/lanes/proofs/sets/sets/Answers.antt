@@ -1,5 +1,4 @@
 -- `sets::sets`: the program is of the first 32 rows. Assumes nothing.
-use mathlib.Core.Path.{ap, ◌∙◌}
 use Rattle.lanes.specs.Sets.{program_of}
 use Rattle.lanes.proofs.sets.sets.Goals as goal
 

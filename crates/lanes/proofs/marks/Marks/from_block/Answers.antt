@@ -4,7 +4,6 @@ use mathlib.Core.Path.{refl, sym, ◌∙◌}
 use Prim.Native.Nat.{◌*◌, ◌^◌, ◌<◌}
 use native.Mathlib.Omega.{arith}
 use Rattle.std.proofs.Common.{rules}
-use lib.Count.{trailing_le}
 use lib.ListN.{get_or}
 use Rattle.lanes.proofs.Seek.{next_none}
 use Rattle.lanes.proofs.Marked.{word_none, trailing_below, word_first, next_on_block, none_past}

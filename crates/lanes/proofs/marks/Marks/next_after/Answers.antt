@@ -1,6 +1,6 @@
 -- `marks::Marks::next_after` looks at the rest of the word of m, and then at the blocks after it. Assumes nothing.
 use mathlib.Core.Path.{sym, ◌∙◌}
-use Prim.Native.Nat.{◌+◌, ◌/◌, ◌%◌, ◌^◌, ◌<◌}
+use Prim.Native.Nat.{◌+◌, ◌/◌, ◌^◌, ◌<◌}
 use native.Mathlib.Omega.{arith}
 use Rattle.std.proofs.Common.{rules}
 use lib.ListN.{get_or}
