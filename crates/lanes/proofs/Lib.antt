@@ -1,4 +1,3 @@
-pub mod WordsFilled
 pub mod Words
 pub mod AtomByAtom
 pub mod Bodies
