@@ -1,4 +1,3 @@
 pub mod Few
-pub mod Sides
 pub mod Determined
 pub mod Apart

@@ -1,8 +1,12 @@
--- `capi::word` is 65,536 times the number plus the value. Assumes nothing.
+-- `capi::word`: the value, or 65,536 times the number. Assumes nothing.
+use native.Mathlib.Omega.{arith}
 use Rattle.capi.specs.Words.{word}
-use borrow.Author.Rules.{rules}
 use Rattle.capi.proofs.word.Goals as goal
 
-pub returns : goal.returns
+pub returns-in-Ok : goal.returns-in-Ok
 unfolding word
-returns c = search rules
+returns-in-Ok c = grind arith
+
+pub returns-in-Err : goal.returns-in-Err
+unfolding word
+returns-in-Err c = grind arith

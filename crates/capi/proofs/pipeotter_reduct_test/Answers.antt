@@ -1,9 +1,0 @@
--- `capi::pipeotter_reduct_test` is the test's number and its yes or no as one word. Assumes nothing.
-use mathlib.Core.Path.{◌∙◌, ap}
-use Rattle.routes.specs.declared.Verdict.{Verdict}
-use Rattle.capi.specs.Words.{word, bit, reduct_word}
-use Rattle.capi.proofs.pipeotter_reduct_test.Goals as goal
-
-pub returns : goal.returns
-unfolding reduct_word
-returns c = c.word.ensures ∙ ap (word _) c.bit.ensures ∙ ap (λ (x : Verdict). word x.no (bit x.yes)) c.reduct_test-r.ensures
