@@ -5,15 +5,17 @@ use mathlib.Core.List.{List}
 use Prim.Native.Nat.{ℕ}
 use lib.Ieee.{Float, nan}
 use Rattle.engine.proofs.Determined.{one_answer}
-use Rattle.std.specs.Prelude.{Option}
+use Rattle.std.specs.Prelude.{Option, Result}
+use Rattle.page.specs.declared.refusal.Refusal.{Refusal}
+use Rattle.page.proofs.Refusing.{one_answered}
 use Rattle.display.specs.Readings as means
 use Rattle.display.specs.Shows.{reading_of, reading_or, DisplaySays}
 use Rattle.display.specs.declared.Readings.{Readings}
 use Rattle.display.specs.declared.Shown.{Shown}
-use Rattle.display.specs.declared.Displayed.{Displayed}
+use Rattle.display.specs.declared.Shown.TheVariants.{NoNumber}
 
-pub display : (r : Readings) (page : List ℕ) (flags : ℕ) (x y : Displayed) → DisplaySays r page flags x → DisplaySays r page flags y → x ≡ y
-display r page flags x y = one_answer
+pub display : (r : Readings) (page : List ℕ) (flags : ℕ) (x y : Result Shown Refusal) → DisplaySays r page flags x → DisplaySays r page flags y → x ≡ y
+display r page flags x y p q = one_answered NoNumber x y (one_answer p q)
 
 pub reading : (shown : Shown) (x y : Option Float) → x ≡ reading_of shown → y ≡ reading_of shown → x ≡ y
 reading shown x y = one_answer

@@ -4,7 +4,7 @@ use mathlib.Core.Path.{◌≡◌, refl, sym, ap, ◌∙◌, subst}
 use mathlib.Core.Bool.{Bool, true, false, not, cond, true≢false}
 use mathlib.Core.Logic.{◌⊎◌, ◌↔◌}
 use mathlib.Core.List.{List, ◌++◌}
-use Rattle.std.specs.Prelude.{Option, Some, None}
+use Rattle.std.specs.Prelude.{Option, Some, None, Result}
 use Prim.Native.Nat.{ℕ, zero, suc, ◌^◌, ◌≤◌, ◌<◌}
 use native.Mathlib.Omega.{arith}
 use native.Mathlib.Decide.{ℕ_discrete}
@@ -15,18 +15,19 @@ use borrow.Author.Tests.{ne_eqb, not-false}
 use Rattle.atoms.proofs.Truth.{true_yes, yes_true}
 use Rattle.lpod.specs.Lists.{every}
 use Rattle.lpod.specs.Answer.{answer}
-use Rattle.lpod.specs.Best.{pick}
 use Rattle.page.specs.Program.{program}
 use Rattle.page.specs.Refusals.{first_that, numbered}
-use Rattle.engine.specs.Calls.{set_or, pick_refusals, pick_no, picked}
-use Rattle.engine.proofs.Given.{Given, given, numbered_append, where_refused, where_accepted}
-use Rattle.engine.proofs.Demands.{NonePreferred, demand_3_pick}
+use Rattle.page.specs.Answers.{no, answered, by_number}
+use Rattle.page.specs.declared.refusal.Refusal.{Refusal}
+use Rattle.page.proofs.Refusing.{one_answered}
+use Rattle.engine.specs.Calls.{pick_refusals, pick_no}
+use Rattle.engine.proofs.Given.{Given, given, numbered_append, where_refused, where_accepted, number_said}
+use Rattle.engine.proofs.Demands.{NonePreferred, pick_stands}
 use Rattle.display.specs.Readings.{finite, bits_of, of_word}
-use Rattle.display.specs.Shows.{outcomes, first_of, shown_at, shown_of, reading_of, outcome_of, said, lacks_outcome, fit, unfit, fit_no, own_refusals, pick_set, shown_by, display_refusals, display_no, displayed, DisplaySays}
+use Rattle.display.specs.Shows.{outcomes, first_of, shown_at, shown_of, reading_of, outcome_of, said, lacks_outcome, fit, unfit, fit_no, own_refusals, pick_set, shown_by, display_refusals, display_no, Displayed, displayed, DisplaySays}
 use Rattle.display.specs.declared.Readings.{Readings}
 use Rattle.display.specs.declared.Shown.{Shown}
 use Rattle.display.specs.declared.Shown.TheVariants.{Live, Second, Held, NoNumber}
-use Rattle.display.specs.declared.Displayed.{Displayed}
 use Rattle.display.proofs.OneOutcome.{OnlyOutcome}
 use Rattle.display.proofs.Conditions.{NotFinite, lack_says, says_lack, no_lack, chosen_one, only_first, unfit_says, says_unfit}
 use Rattle.display.proofs.Turns.{pick_numbered, own_number, pick_number}
@@ -63,31 +64,37 @@ first_decided true u e = refl
 first_decided false true e = absurd (omega arith)
 first_decided false false e = absurd (omega arith)
 
-module _ (r : Readings) (page : List ℕ) (flags : ℕ) (d : Displayed) (says : DisplaySays r page flags d) where
+module _ (r : Readings) (page : List ℕ) (flags : ℕ) (d : Result Shown Refusal) (says : DisplaySays r page flags d) where
+  abbrev view : Displayed
+  view = answered NoNumber d
+
   abbrev atoms : ℕ
   atoms = (program page flags).atoms
 
   abbrev set : ℕ
   set = pick_set page flags
 
-  number : d.no ≡ display_no r page flags
-  unfolding displayed
-  number = ap (λ (x : Displayed). x.no) says
+  number : no d ≡ display_no r page flags
+  number = number_said NoNumber (shown_by r page flags) (display_no r page flags) d says
+
+  in_view : view.no ≡ no d
+  unfolding by_number
+  in_view = ap (λ (x : Displayed). x.no) says ∙ sym number
 
   -- ---- each refusal exactly when it should be given, the first in order; and none shows a number
-  pub refused_first : Given (display_refusals r page flags) d.no
+  pub refused_first : Given (display_refusals r page flags) (no d)
   unfolding display_refusals own_refusals display_no numbered every
   refused_first =
-      given (display_refusals r page flags) d.no (numbered_append (pick_refusals page flags) (own_refusals atoms set (shown_by r page flags)) (pick_numbered page flags) tt) number
+      given (display_refusals r page flags) (no d) (numbered_append (pick_refusals page flags) (own_refusals atoms set (shown_by r page flags)) (pick_numbered page flags) tt) number
 
   -- the same in words: those of the pick; then 14; then 15
-  pub given_pick : (pick_no page flags ≡ 0 → ⊥) → d.no ≡ pick_no page flags
+  pub given_pick : (pick_no page flags ≡ 0 → ⊥) → no d ≡ pick_no page flags
   given_pick z = number ∙ sym (pick_number r page flags z)
 
-  own : pick_no page flags ≡ 0 → d.no ≡ cond (lacks_outcome atoms set) 14 (fit_no (shown_by r page flags))
+  own : pick_no page flags ≡ 0 → no d ≡ cond (lacks_outcome atoms set) 14 (fit_no (shown_by r page flags))
   own z = number ∙ own_number r page flags z
 
-  pub given_14 : pick_no page flags ≡ 0 → (d.no ≡ 14) ↔ ((atoms < 4) ⊎ ((a : ℕ) → OnlyOutcome set a → ⊥))
+  pub given_14 : pick_no page flags ≡ 0 → (no d ≡ 14) ↔ ((atoms < 4) ⊎ ((a : ℕ) → OnlyOutcome set a → ⊥))
   unfolding fit_no first_that
   given_14 z = (
     (λ e. lack_says atoms set (first_decided (lacks_outcome atoms set) (unfit (shown_by r page flags)) (sym (own z) ∙ e))),
@@ -95,81 +102,78 @@ module _ (r : Readings) (page : List ℕ) (flags : ℕ) (d : Displayed) (says : 
   )
 
   pub given_15 : pick_no page flags ≡ 0 → 4 ≤ atoms → (a : ℕ) → OnlyOutcome set a
-      → (d.no ≡ 15) ↔ ((x : Float) × ((reading_of (shown_at a r) ≡ Some x) × NotFinite x))
+      → (no d ≡ 15) ↔ ((x : Float) × ((reading_of (shown_at a r) ≡ Some x) × NotFinite x))
   unfolding shown_by shown_of
   given_15 z l a o =
       let s : shown_by r page flags ≡ shown_at a r = ap (λ (b : ℕ). shown_at b r) (only_first set a o) in
-      let e : d.no ≡ fit_no (shown_at a r) = own z ∙ rw (no_lack atoms set l a o, s) in (
+      let e : no d ≡ fit_no (shown_at a r) = own z ∙ rw (no_lack atoms set l a o, s) in (
         (λ q. unfit_says (shown_at a r) ((fifteen (shown_at a r)).0 (sym e ∙ q))),
         (λ h. e ∙ (fifteen (shown_at a r)).1 (says_unfit (shown_at a r) h.0 h.1.0 h.1.1)),
       )
 
-  blank : (d.no ≡ 0 → ⊥) → d.shown ≡ NoNumber
-  unfolding displayed
-  blank z = ap (λ (x : Displayed). x.shown) says ∙ where_refused (display_no r page flags) (shown_by r page flags) NoNumber (λ e. z (number ∙ e))
+  blank : (no d ≡ 0 → ⊥) → view.value ≡ NoNumber
+  unfolding by_number
+  blank z = ap (λ (x : Displayed). x.value) says ∙ where_refused (display_no r page flags) (shown_by r page flags) NoNumber (λ e. z (number ∙ e))
 
-  pub refused_blank : (d.no ≡ 0 → ⊥) → ((said d).outcome ≡ None) × ((said d).reading ≡ None)
+  pub refused_blank : (no d ≡ 0 → ⊥) → ((said view).outcome ≡ None) × ((said view).reading ≡ None)
   unfolding said outcome_of reading_of
-  refused_blank z = rw (blank z) (go d.no z, refl)
+  refused_blank z = rw (blank z) (go view.no (λ e. z (sym in_view ∙ e)), refl)
     where
       go : (n : ℕ) → (n ≡ 0 → ⊥) → outcome_of n NoNumber ≡ None
       go zero z = absurd (z refl)
       go (suc n) z = refl
 
   -- ---- what an accepted call shows
-  accepted : d.no ≡ 0 → (pick_no page flags ≡ 0) × (lacks_outcome atoms set ≡ false) × (unfit (shown_by r page flags) ≡ false)
+  accepted : no d ≡ 0 → (pick_no page flags ≡ 0) × (lacks_outcome atoms set ≡ false) × (unfit (shown_by r page flags) ≡ false)
   unfolding fit_no first_that
   accepted z = go (ℕ_discrete (pick_no page flags) 0)
     where
       go : Dec (pick_no page flags ≡ 0) → (pick_no page flags ≡ 0) × (lacks_outcome atoms set ≡ false) × (unfit (shown_by r page flags) ≡ false)
-      go (yes k) = let p = none_decided (lacks_outcome atoms set) (unfit (shown_by r page flags)) (sym (own k) ∙ z) in (k, p.0, p.1)
-      go (no n) = absurd (n (sym (given_pick n) ∙ z))
+      go (Dec.yes k) = let p = none_decided (lacks_outcome atoms set) (unfit (shown_by r page flags)) (sym (own k) ∙ z) in (k, p.0, p.1)
+      go (Dec.no n) = absurd (n (sym (given_pick n) ∙ z))
 
-  shown_is : d.no ≡ 0 → d.shown ≡ shown_by r page flags
-  unfolding displayed
-  shown_is z = ap (λ (x : Displayed). x.shown) says ∙ where_accepted (display_no r page flags) (shown_by r page flags) NoNumber (sym number ∙ z)
+  shown_is : no d ≡ 0 → view.value ≡ shown_by r page flags
+  unfolding by_number
+  shown_is z = ap (λ (x : Displayed). x.value) says ∙ where_accepted (display_no r page flags) (shown_by r page flags) NoNumber (sym number ∙ z)
 
   -- it is the one outcome that the pick holds, with its reading
-  pub shown_only : d.no ≡ 0 → (a : ℕ) × (OnlyOutcome set a × ((said d).outcome ≡ Some a) × ((said d).reading ≡ reading_of (shown_at a r)))
+  pub shown_only : no d ≡ 0 → (a : ℕ) × (OnlyOutcome set a × ((said view).outcome ≡ Some a) × ((said view).reading ≡ reading_of (shown_at a r)))
   unfolding said shown_by shown_of
   shown_only z =
       let a = first_of (outcomes set) in
       let o = chosen_one atoms set (accepted z).1 in
-      (a, (o, rw (z, shown_is z) (outcome_at r a o.outcome), ap reading_of (shown_is z)))
+      (a, (o, rw (in_view ∙ z, shown_is z) (outcome_at r a o.outcome), ap reading_of (shown_is z)))
 
   -- and it is shown wherever the pick is accepted, the page has four atoms, and the chosen reading, if there is one, is finite
-  pub shown_where : (a : ℕ) → pick_no page flags ≡ 0 → 4 ≤ atoms → OnlyOutcome set a → T (fit (reading_of (shown_at a r))) → (d.no ≡ 0) × (d.shown ≡ shown_at a r)
+  pub shown_where : (a : ℕ) → pick_no page flags ≡ 0 → 4 ≤ atoms → OnlyOutcome set a → T (fit (reading_of (shown_at a r))) → (no d ≡ 0) × (view.value ≡ shown_at a r)
   unfolding shown_by shown_of fit_no unfit first_that
   shown_where a k l o q =
       let e : shown_by r page flags ≡ shown_at a r = ap (λ (b : ℕ). shown_at b r) (only_first set a o) in
-      let z : d.no ≡ 0 = own k ∙ rw (no_lack atoms set l a o, e, yes_true (fit (reading_of (shown_at a r))) q) in
+      let z : no d ≡ 0 = own k ∙ rw (no_lack atoms set l a o, e, yes_true (fit (reading_of (shown_at a r))) q) in
       (z, shown_is z ∙ e)
 
   -- the pick behind it is the one of demand 3: an answer set to which none is preferred, and the lowest-numbered of that kind
-  pub shown_stands : flags < 2 ^ 16 → d.no ≡ 0
+  pub shown_stands : flags < 2 ^ 16 → no d ≡ 0
       → T (answer (program page flags) set) × NonePreferred (program page flags) set
       × ((t : ℕ) → T (answer (program page flags) t) → NonePreferred (program page flags) t → set ≤ t)
-  unfolding picked pick_set
-  shown_stands w z =
-      let n = pick_no page flags in
-      let e = where_accepted n (set_or 0 (pick (program page flags))) 0 (accepted z).0 in
-      rw (← e) (demand_3_pick page flags w (picked n (pick (program page flags))) refl (accepted z).0)
+  unfolding pick_set
+  shown_stands w z = pick_stands page flags w (accepted z).0 set refl
 
   -- ---- the shown number
   -- where a number is shown, the call is accepted, and the number is the chosen reading
-  pub shown_accepted : (x : Float) → (said d).reading ≡ Some x → d.no ≡ 0
-  shown_accepted x e = go (ℕ_discrete d.no 0)
+  pub shown_accepted : (x : Float) → (said view).reading ≡ Some x → no d ≡ 0
+  shown_accepted x e = go (ℕ_discrete (no d) 0)
     where
-      go : Dec (d.no ≡ 0) → d.no ≡ 0
-      go (yes z) = z
-      go (no n) = let none = (refused_blank n).1 in cc
+      go : Dec (no d ≡ 0) → no d ≡ 0
+      go (Dec.yes z) = z
+      go (Dec.no n) = let none = (refused_blank n).1 in cc
 
-  pub shown_reading : (x : Float) → (said d).reading ≡ Some x → reading_of (shown_by r page flags) ≡ Some x
+  pub shown_reading : (x : Float) → (said view).reading ≡ Some x → reading_of (shown_by r page flags) ≡ Some x
   unfolding said
   shown_reading x e = ap reading_of (sym (shown_is (shown_accepted x e))) ∙ e
 
   -- it is finite: neither an infinity nor a NaN is ever shown
-  pub shown_finite : (x : Float) → (said d).reading ≡ Some x → T (finite x)
+  pub shown_finite : (x : Float) → (said view).reading ≡ Some x → T (finite x)
   unfolding unfit fit
   shown_finite x e =
       true_yes (not-false (finite x) (sym (ap (λ (o : Option Float). not (fit o)) (shown_reading x e)) ∙ (accepted (shown_accepted x e)).2))
@@ -181,7 +185,7 @@ module _ (r : Readings) (page : List ℕ) (flags : ℕ) (d : Displayed) (says : 
   finite_number (fin s m e) t = tt
 
   -- it has the very bits of the chosen reading
-  pub shown_bits : (n : ℕ) → n < 2 ^ 32 → reading_of (shown_by r page flags) ≡ Some (of_word n) → (x : Float) → (said d).reading ≡ Some x → bits_of x ≡ n
+  pub shown_bits : (n : ℕ) → n < 2 ^ 32 → reading_of (shown_by r page flags) ≡ Some (of_word n) → (x : Float) → (said view).reading ≡ Some x → bits_of x ≡ n
   shown_bits n w c x e =
       let shown = shown_reading x e in let q : x ≡ of_word n = cc in
       ap bits_of q ∙ to_bits-of_bits binary32 n w (finite_number (of_word n) (subst (λ (y : Float). T (finite y)) q (shown_finite x e)))
@@ -198,21 +202,21 @@ module _ (r s : Readings) (page : List ℕ) (flags : ℕ) where
   -- without a chosen outcome no reading is looked at
   lacking : lacks_outcome (program page flags).atoms (pick_set page flags) ≡ true → (x : Readings)
       → displayed (display_no x page flags) (shown_by x page flags) ≡ displayed (cond (eqb (pick_no page flags) 0) 14 (pick_no page flags)) NoNumber
-  unfolding displayed
+  unfolding by_number
   lacking t x = go (ℕ_discrete (pick_no page flags) 0)
     where
       go : Dec (pick_no page flags ≡ 0)
           → displayed (display_no x page flags) (shown_by x page flags) ≡ displayed (cond (eqb (pick_no page flags) 0) 14 (pick_no page flags)) NoNumber
-      go (yes k) = rw (own_number x page flags k, t, k)
-      go (no n) = rw (← pick_number x page flags n, ne_eqb (pick_no page flags) 0 n, ne_eqb (pick_no page flags) 0 n)
+      go (Dec.yes k) = rw (own_number x page flags k, t, k)
+      go (Dec.no n) = rw (← pick_number x page flags n, ne_eqb (pick_no page flags) 0 n, ne_eqb (pick_no page flags) 0 n)
 
-  pub same_shown : (d e : Displayed) → DisplaySays r page flags d → DisplaySays s page flags e
+  pub same_shown : (d e : Result Shown Refusal) → DisplaySays r page flags d → DisplaySays s page flags e
       → (OnlyOutcome (pick_set page flags) 0 → r.live ≡ s.live)
       → (OnlyOutcome (pick_set page flags) 1 → r.second ≡ s.second)
       → (OnlyOutcome (pick_set page flags) 2 → r.held ≡ s.held)
       → d ≡ e
   unfolding display_no display_refusals shown_by shown_of
-  same_shown d e p q f g h = p ∙ go (lacks_outcome (program page flags).atoms (pick_set page flags)) refl ∙ sym q
+  same_shown d e p q f g h = one_answered NoNumber d e (p ∙ go (lacks_outcome (program page flags).atoms (pick_set page flags)) refl ∙ sym q)
     where
       answer_of : Shown → Displayed
       answer_of y = displayed (first_that (pick_refusals page flags ++ own_refusals (program page flags).atoms (pick_set page flags) y)) y

@@ -1,16 +1,18 @@
 -- What stands on the display. Atoms 0 to 3 are the outcomes live, second, held and none.
-use Rattle.std.specs.Prelude.{◌≡◌, Bool, true, ◌||◌, not, cond, List, [], ◌∷◌, ◌++◌, ℕ, zero, suc, eqb, ltb, length, Float, Option, Some, None}
+use Rattle.std.specs.Prelude.{◌≡◌, Bool, true, ◌||◌, not, List, [], ◌∷◌, ◌++◌, ℕ, zero, suc, eqb, ltb, length, Float, Option, Some, None, Result}
 use Rattle.atoms.specs.Atoms.{has}
 use Rattle.lpod.specs.Lists.{keep, below}
 use Rattle.lpod.specs.Best.{pick}
 use Rattle.page.specs.Program.{program}
-use Rattle.page.specs.Refusals.{Refusal, refuse, first_that}
+use Rattle.page.specs.Refusals as lists
+use Rattle.page.specs.Refusals.{refuse, first_that}
+use Rattle.page.specs.Answers.{Answered, answered, by_number}
+use Rattle.page.specs.declared.refusal.Refusal.{Refusal}
 use Rattle.engine.specs.Calls.{set_or, pick_refusals}
 use Rattle.display.specs.Readings.{finite}
 use Rattle.display.specs.declared.Readings.{Readings}
 use Rattle.display.specs.declared.Shown.{Shown}
 use Rattle.display.specs.declared.Shown.TheVariants.{Live, Second, Held, NoNumber}
-use Rattle.display.specs.declared.Displayed.{Displayed}
 
 -- ---- the chosen outcome
 -- the outcomes that a set holds, rising
@@ -49,7 +51,15 @@ unfoldable pub reading_or : Float → Option Float → Float
 reading_or d None = d
 reading_or d (Some x) = x
 
--- ---- what an answer says, case by case: its number; the outcome that is shown, by its atom, and none where the call is refused; the reading
+-- ---- an answer by its number and what is shown. A refused call shows no number
+abbrev pub Displayed : Type 0
+Displayed = Answered Shown
+
+-- with number n: what is shown; where n refuses, no number
+abbrev pub displayed : ℕ → Shown → Displayed
+displayed n s = by_number NoNumber n s
+
+-- what it says, case by case: its number; the outcome that is shown, by its atom, and none where the call is refused; the reading
 pub record Said : Type 0 where
   pub number : ℕ
   pub outcome : Option ℕ
@@ -63,7 +73,7 @@ outcome_of zero NoNumber = Some 3
 outcome_of (suc n) NoNumber = None
 
 unfoldable pub said : Displayed → Said
-said d = record { number = d.no; outcome = outcome_of d.no d.shown; reading = reading_of d.shown }
+said d = record { number = d.no; outcome = outcome_of d.no d.value; reading = reading_of d.value }
 
 -- ---- the refusals of its own
 -- 14: fewer than four atoms, or not exactly one of the four
@@ -81,7 +91,7 @@ unfit s = not (fit (reading_of s))
 unfoldable pub fit_no : Shown → ℕ
 fit_no s = first_that (refuse 15 (unfit s) ∷ [])
 
-unfoldable pub own_refusals : ℕ → ℕ → Shown → List Refusal
+unfoldable pub own_refusals : ℕ → ℕ → Shown → List lists.Refusal
 own_refusals atoms set s = refuse 14 (lacks_outcome atoms set) ∷ refuse 15 (unfit s) ∷ []
 
 -- ---- the call
@@ -93,15 +103,15 @@ unfoldable pub shown_by : Readings → List ℕ → ℕ → Shown
 shown_by r page flags = shown_of (pick_set page flags) r
 
 -- those of the pick, then its own
-unfoldable pub display_refusals : Readings → List ℕ → ℕ → List Refusal
+unfoldable pub display_refusals : Readings → List ℕ → ℕ → List lists.Refusal
 display_refusals r page flags = pick_refusals page flags ++ own_refusals (program page flags).atoms (pick_set page flags) (shown_by r page flags)
 
 unfoldable pub display_no : Readings → List ℕ → ℕ → ℕ
 display_no r page flags = first_that (display_refusals r page flags)
 
--- with number n: what is shown; where n refuses, no number
-unfoldable pub displayed : ℕ → Shown → Displayed
-displayed n s = record { no = n; shown = cond (eqb n 0) s NoNumber }
+-- the code's answer d where the chosen outcome gives s, and that of the call
+abbrev pub FitSays : Shown → Result Shown Refusal → Type 0
+FitSays s d = answered NoNumber d ≡ displayed (fit_no s) s
 
-abbrev pub DisplaySays : Readings → List ℕ → ℕ → Displayed → Type 0
-DisplaySays r page flags d = d ≡ displayed (display_no r page flags) (shown_by r page flags)
+abbrev pub DisplaySays : Readings → List ℕ → ℕ → Result Shown Refusal → Type 0
+DisplaySays r page flags d = answered NoNumber d ≡ displayed (display_no r page flags) (shown_by r page flags)

@@ -8,6 +8,8 @@ ghost use Rattle.display.specs.Shows as means;
 
 pub mod reading;
 
+use page::refusal::Refusal;
+
 // The three current readings in NTU.
 #[derive(Clone, Copy, Debug, PartialEq)]
 pub struct Readings {
@@ -16,20 +18,13 @@ pub struct Readings {
     pub held: f32,
 }
 
-// What stands on the display: one of the readings, or no number.
+// What stands on the display: one of the readings, or no number where the pick is "none".
 #[derive(Clone, Copy, Debug, PartialEq)]
 pub enum Shown {
     Live(f32),
     Second(f32),
     Held(f32),
     NoNumber,
-}
-
-// A refusal number, and what is shown. A refused call shows no number. So does a pick of "none", which has the number 0.
-#[derive(Clone, Copy)]
-pub struct Displayed {
-    pub no: u16,
-    pub shown: Shown,
 }
 
 impl Readings {
@@ -85,17 +80,14 @@ pub fn reading_of(shown: Shown) -> f32
 }
 
 // Where one outcome is chosen: 15 if its reading is infinite or not a number, else what it shows.
-#[tactic(auto, unfolding(crate::specs::Shows::displayed, crate::specs::Shows::fit_no, crate::specs::Shows::unfit, page::specs::Refusals::first_that))]
-fn fitted(shown: Shown) -> Displayed
-    ensures { result ≡ means.displayed (means.fit_no shown) shown }
+#[tactic(auto, unfolding(page::specs::Answers::by_number, crate::specs::Shows::fit_no, crate::specs::Shows::unfit, page::specs::Refusals::first_that))]
+fn fitted(shown: Shown) -> Result<Shown, Refusal>
+    ensures { means.FitSays shown result }
 {
-    if shown.is_fit() {
-        return Displayed { no: 0, shown };
+    if !shown.is_fit() {
+        return Err(Refusal::UnfitReading);
     }
-    Displayed {
-        no: 15,
-        shown: Shown::NoNumber,
-    }
+    Ok(shown)
 }
 
 // A page of so many atoms whose pick is the set shows nothing: fewer than four, or not exactly one of the four in the set.
@@ -108,22 +100,12 @@ fn lacks_outcome(count: u16, set: u16) -> bool
 
 // The refusals of the pick, then 14 where the page has fewer than four atoms or the pick does not hold exactly one of the four, then 15 where the
 // chosen reading is infinite or not a number; else what the pick shows.
-pub fn display(readings: Readings, page: &[u8], flags: u16) -> Displayed
+pub fn display(readings: Readings, page: &[u8], flags: u16) -> Result<Shown, Refusal>
     ensures { means.DisplaySays readings page.now flags result }
 {
-    let blank = Shown::NoNumber;
-    let picked = engine::pick::pick(page, flags);
-    if picked.no != 0 {
-        return Displayed {
-            no: picked.no,
-            shown: blank,
-        };
+    let set = engine::pick::pick(page, flags)?;
+    if lacks_outcome(page::fields::atom_count(page), set) {
+        return Err(Refusal::NoOutcome);
     }
-    if lacks_outcome(page::fields::atom_count(page), picked.set) {
-        return Displayed {
-            no: 14,
-            shown: blank,
-        };
-    }
-    fitted(readings.shown_of(picked.set))
+    fitted(readings.shown_of(set))
 }

@@ -1,12 +1,13 @@
 -- What the program reads and says. Its input is three readings of four bytes, a flag word of two, and the page; the low byte first.
-use Rattle.std.specs.Prelude.{cond, List, [], ◌∷◌, ℕ, ◌+◌, ◌*◌, ltb, length, drop, Float}
+use Rattle.std.specs.Prelude.{◌≡◌, cond, List, [], ◌∷◌, ℕ, ◌+◌, ◌*◌, ltb, length, drop, Float, Result}
+use Rattle.page.specs.Answers.{answered}
 use Rattle.page.specs.Fields.{word_at}
+use Rattle.page.specs.declared.refusal.Refusal.{Refusal}
 use Rattle.display.specs.Readings.{of_word}
-use Rattle.display.specs.Shows.{shown_by, display_no, displayed}
+use Rattle.display.specs.Shows.{shown_by, display_no, Displayed, displayed}
 use Rattle.display.specs.declared.Readings.{Readings}
 use Rattle.display.specs.declared.Shown.{Shown}
 use Rattle.display.specs.declared.Shown.TheVariants.{Live, Second, Held, NoNumber}
-use Rattle.display.specs.declared.Displayed.{Displayed}
 
 -- the reading whose bits are the words at two places, the low one first
 unfoldable pub reading_at : List ℕ → ℕ → ℕ → Float
@@ -22,6 +23,10 @@ said_of input =
     let page = drop 14 input in
     let flags = word_at input 12 in
     cond (ltb (length input) 14) (displayed 1 NoNumber) (displayed (display_no r page flags) (shown_by r page flags))
+
+-- the code's answer d to an input
+abbrev pub InputSays : List ℕ → Result Shown Refusal → Type 0
+InputSays input d = answered NoNumber d ≡ said_of input
 
 -- the name of a case, as it is printed: "live", "second", "held", "no number"
 unfoldable pub name_of : Shown → List ℕ

@@ -5,7 +5,8 @@
 ghost use Rattle.std.specs.Prelude.{◌≡◌, ◌+◌, ◌≤◌, length};
 ghost use Rattle.showrun.specs.Says as means;
 
-use display::{Displayed, Readings, Shown, reading};
+use display::{Readings, Shown, reading};
+use page::refusal::Refusal;
 use std::io;
 
 // The reading whose bits are the four bytes from a place on, the low one first.
@@ -43,14 +44,11 @@ fn say_shown(rt: &impl Print, shown: Shown) -> io::Result<()> {
 }
 
 // What the display says of an input: readings, flag word and page. One that is too short for a page to begin is refused by 1.
-fn said(input: &[u8]) -> Displayed
-    ensures { result ≡ means.said_of input.now }
+fn said(input: &[u8]) -> Result<Shown, Refusal>
+    ensures { means.InputSays input.now result }
 {
     if input.len() < 14 {
-        return Displayed {
-            no: 1,
-            shown: Shown::NoNumber,
-        };
+        return Err(Refusal::TooShort);
     }
     let readings = Readings {
         live: reading_at(input, 0),
@@ -61,12 +59,11 @@ fn said(input: &[u8]) -> Displayed
     display::display(readings, &input[14..], flags)
 }
 
-fn say(rt: &impl Print, said: Displayed) -> io::Result<()> {
-    let no = said.no;
-    if no != 0 {
-        return println!(rt; "refused {no}");
+fn say(rt: &impl Print, said: Result<Shown, Refusal>) -> io::Result<()> {
+    match said {
+        Ok(shown) => say_shown(rt, shown),
+        Err(refusal) => println!(rt; "refused {refusal}"),
     }
-    say_shown(rt, said.shown)
 }
 
 // The buffer takes 4,096 bytes, and what comes after them is not read. A page has at most 866, so a longer input is refused by 2, 3 or 4, and which of

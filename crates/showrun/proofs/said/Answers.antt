@@ -1,4 +1,5 @@
 -- `showrun::said` takes the input apart and asks the display. Assumes nothing.
+use Rattle.std.specs.Prelude.{Result}
 use mathlib.Core.Path.{◌≡◌, ◌∙◌}
 use mathlib.Core.List.{List, [], ◌∷◌}
 use Prim.Native.Nat.{ℕ, ◌-◌}
@@ -9,14 +10,16 @@ use lib.Ieee.{Float}
 use Rattle.std.specs.Int.{w16, from_le_bytes}
 use borrow.Author.Tests.{lt-ltb, le-ltb}
 use Rattle.page.specs.Fields.{word_at}
-use Rattle.display.specs.Shows.{displayed, DisplaySays}
-use Rattle.display.specs.declared.Displayed.{Displayed}
+use Rattle.page.specs.Answers.{by_number}
+use Rattle.page.specs.declared.refusal.Refusal.{Refusal}
+use Rattle.display.specs.Shows.{DisplaySays}
+use Rattle.display.specs.declared.Shown.{Shown}
 use Rattle.showrun.specs.Says.{reading_at, readings_of, said_of}
 use Rattle.showrun.proofs.said.Goals as goal
 
 -- the display's answer for what the input was taken apart into
 module _ (input : List ℕ) where
-  asked : (d : Displayed) (x y z : Float) (page : List ℕ) (flags : ℕ) → x ≡ reading_at input 0 2 → y ≡ reading_at input 4 6 → z ≡ reading_at input 8 10 → page ≡ drop 14 input → flags ≡ word_at input 12
+  asked : (d : Result Shown Refusal) (x y z : Float) (page : List ℕ) (flags : ℕ) → x ≡ reading_at input 0 2 → y ≡ reading_at input 4 6 → z ≡ reading_at input 8 10 → page ≡ drop 14 input → flags ≡ word_at input 12
       → DisplaySays (record { live = x; second = y; held = z }) page flags d → DisplaySays (readings_of input) (drop 14 input) (word_at input 12) d
   unfolding readings_of
   asked d x y z page flags is_live is_second is_held is_page is_flags says = rw (← is_live, ← is_second, ← is_held, ← is_page, ← is_flags) says
@@ -25,7 +28,7 @@ module _ (input : List ℕ) where
   rest = take_all (length input - 14) (drop 14 input) (omega (arith, length-drop 14 input))
 
 pub returns-then-input-lt14 : goal.returns-then-input-lt14
-unfolding said_of displayed
+unfolding said_of by_number
 returns-then-input-lt14 c = rw (lt-ltb (length c.args.input.now) 14 (omega arith))
 
 flag_word : (input : List ℕ) → from_le_bytes w16 (get_or input 12 0 ∷ get_or input 13 0 ∷ []) ≡ word_at input 12
