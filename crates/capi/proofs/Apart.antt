@@ -9,10 +9,10 @@ use native.Mathlib.Omega.{arith}
 use lib.Dec.{T, eqb}
 use lib.Ieee.{Float, nan, fits, binary32}
 use lib.Ieee.Bits.{to_bits-lt}
+use Rattle.page.specs.Answers.{by_number}
 use Rattle.display.specs.Readings.{bits_of}
-use Rattle.display.specs.Shows.{outcomes, first_of, shown_at, shown_of, reading_of, reading_or, pick_set, shown_by, display_no, displayed}
+use Rattle.display.specs.Shows.{outcomes, first_of, shown_at, shown_of, reading_of, reading_or, pick_set, shown_by, display_no, displayed, Displayed}
 use Rattle.display.specs.declared.Readings.{Readings}
-use Rattle.display.specs.declared.Displayed.{Displayed}
 use Rattle.display.specs.declared.Shown.{Shown}
 use Rattle.display.specs.declared.Shown.TheVariants.{Live, Second, Held, NoNumber}
 use Rattle.capi.specs.Words.{word, case_value, shown_word, display_word}
@@ -76,8 +76,8 @@ module _ (live second held : Float) (l : T (fits binary32 live)) (m : T (fits bi
   single_at (suc (suc zero)) x e = same held h x e
   single_at (suc (suc (suc a))) x e = cc
 
-  single : (x : Float) → reading_of says.shown ≡ Some x → T (fits binary32 x)
-  unfolding says displayed shown_by shown_of reading_of
+  single : (x : Float) → reading_of says.value ≡ Some x → T (fits binary32 x)
+  unfolding says by_number shown_by shown_of reading_of
   single x e = go (eqb (display_no readings page flags) 0) e
     where
       go : (b : Bool) → reading_of (cond b (shown_at (first_of (outcomes (pick_set page flags))) readings) NoNumber) ≡ Some x → T (fits binary32 x)
@@ -85,6 +85,6 @@ module _ (live second held : Float) (l : T (fits binary32 live)) (m : T (fits bi
       go false e = cc
 
   pub display_apart : let w = display_word live second held page flags in
-      (w / 4294967296 / 65536 ≡ says.no) × (w / 4294967296 % 65536 ≡ case_value says.shown) × (w % 4294967296 ≡ bits_of (reading_or nan (reading_of says.shown)))
+      (w / 4294967296 / 65536 ≡ says.no) × (w / 4294967296 % 65536 ≡ case_value says.value) × (w % 4294967296 ≡ bits_of (reading_or nan (reading_of says.value)))
   unfolding display_word says readings
-  display_apart = (shown_number says.no says.shown single, shown_case says.no says.shown single, shown_bits says.no says.shown single)
+  display_apart = (shown_number says.no says.value single, shown_case says.no says.value single, shown_bits says.no says.value single)

@@ -1,3 +1,4 @@
+pub mod Mapped
 pub mod Few
 pub mod Determined
 pub mod Apart

@@ -18,6 +18,7 @@ use engine::compare::Side;
 use page::refusal::Refusal;
 
 // The answer as one word: its value, or 65,536 times the number of its refusal.
+#[tactic(auto, unfolding(crate::specs::Words::word))]
 fn word(answer: Result<u32, Refusal>) -> u32
     ensures { result ≡ means.word (answered 0 answer).no (answered 0 answer).value }
 {
@@ -112,6 +113,7 @@ pub extern "C" fn pipeotter_write(
 }
 
 // What C gets for a comparison: 1 the first is preferred, 2 the second, 0 neither.
+#[tactic(auto, unfolding(crate::specs::Words::side_value))]
 fn side_value(side: Side) -> u32
     ensures { result ≡ means.side_value (side_number side) }
 {
@@ -139,6 +141,7 @@ pub extern "C" fn pipeotter_letter(number: u16) -> u8
 }
 
 // What C gets for the case that is shown: 0 no number, 1 live, 2 second, 3 held.
+#[tactic(auto, unfolding(crate::specs::Words::case_value))]
 fn case_value(shown: Shown) -> u32
     ensures { result ≡ means.case_value shown }
 {
