@@ -17,6 +17,7 @@ use super::rank::Kept;
 use super::ranking::Ranking;
 use super::rules::Rules;
 use super::span::Span;
+use super::word::First;
 use super::{fill, word};
 
 // Which sets: all answer sets, or the best of them.
@@ -76,12 +77,13 @@ fn mark(p: Program, lows: &mut [u64], marks: &mut [u64])
     requires { (length p.rows.now ≤ length lows.old) × Blank marks.old p.top }
     ensures { means.Marked p.entry.rows.now p.entry.pairs.now p.entry.flags p.entry.top marks.new × LowBodies p.entry.rows.now lows.new × (length lows.new ≡ length lows.old) }
 {
-    word::low_bodies(p.rows, &mut *lows);
+    let first = First::new();
+    word::low_bodies(p.rows, &first, &mut *lows);
     let rules = Rules {
         rows: p.rows,
         lows: &*lows,
     };
-    fill::answers(rules, p.pairs, p.flags, p.top, &mut *marks);
+    fill::answers(rules, &first, p.pairs, p.flags, p.top, &mut *marks);
 }
 
 // Marks the answer sets in words that have no mark, keeps the best where only these are wanted, and lists what is marked.
