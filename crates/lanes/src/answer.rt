@@ -88,7 +88,8 @@ pub fn answers(rules: Rules<'_>, first: &First, pairs: &[u16], flags: u16, b: u1
     requires { (b < 1024) × ((j : ℕ) → j < 64 → T (has x j) → T (inside flags (64 * b + j))) }
     ensures { (j : ℕ) → j < 64 → has result j ≡ (has x j && answer (program_in rules.entry.rows.now pairs.now flags) (64 * b + j)) }
 {
-    let words = first.words_of(b);
+    let mut words = first.words;
+    word::to_block(b, &mut words);
     let block = Block {
         number: b,
         words: &words,

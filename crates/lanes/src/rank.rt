@@ -11,7 +11,7 @@ ghost use Rattle.lanes.specs.Lanes.{Says, LowBody, LowBodies};
 ghost use Rattle.lanes.specs.Rank.{over, Grades, ranks};
 
 use crate::rules::Rules;
-use crate::word::{self, Block, First};
+use crate::word::{self, Block};
 use words::row;
 
 // No degree is above the longest head.
@@ -49,7 +49,7 @@ pub fn first_rows(grades: &[u8], n: usize) -> u32
     x
 }
 
-// Rows that are kept, at most 32, and row by row the low parts of their bodies.
+// Rows that are kept, at most 32, and row by row the low parts of their bodies. One count serves both arrays.
 #[derive(Clone, Copy)]
 pub struct Kept {
     rows: [u64; 32],
@@ -141,8 +141,8 @@ fn at_degree(rules: Rules, grades: &[u8], block: Block<'_>, k: u8) -> Level
     requires { (length rules.rows.now ≤ length grades.now) × (1 ≤ k) }
     ensures { (M : ℕ) → Grades rules.entry.rows.now grades.now M → Says block.entry.number result.up (λ s. within (rules_in rules.entry.rows.now) k s M) × Says block.entry.number result.down (λ s. within (rules_in rules.entry.rows.now) k M s) }
 {
-    let mut up: u64 = 0xFFFF_FFFF_FFFF_FFFF;
-    let mut down: u64 = 0xFFFF_FFFF_FFFF_FFFF;
+    let mut up = u64::MAX;
+    let mut down = u64::MAX;
     for (n, &word) in rules.rows.iter().enumerate() {
         let e = exact(word, rules.lows[n], block, k);
         if grades[n] == k {
@@ -166,7 +166,7 @@ pub fn compare(rules: Rules, grades: &[u8], deepest: u8, b: u16, among: u64) -> 
     requires { (b < 1024) × (length rules.rows.now ≤ length grades.now) × (deepest ≡ longest (rules_in rules.rows.now)) }
     ensures { (M : ℕ) → Grades rules.entry.rows.now grades.now M → (j : ℕ) → j < 64 → (has result.won j ≡ (has among j && over rules.entry.rows.now (64 * b + j) M)) × (has result.lost j ≡ (has among j && over rules.entry.rows.now M (64 * b + j))) }
 {
-    let words = First::new().words_of(b);
+    let words = word::block_words(b);
     let block = Block {
         number: b,
         words: &words,
@@ -196,7 +196,7 @@ pub fn firsts(rules: Rules, b: u16, among: u64) -> u32
     if among == 0 {
         return 0;
     }
-    let words = First::new().words_of(b);
+    let words = word::block_words(b);
     let block = Block {
         number: b,
         words: &words,

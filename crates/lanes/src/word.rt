@@ -37,7 +37,7 @@ pub fn raise(raised: u16, w: &mut [u64; 16])
     }
 }
 
-// The words of block 0, from which those of each other block are made: to copy them costs less than to make them from the table.
+// The words of block 0, from which those of each other block are made.
 #[derive(Clone, Copy)]
 pub struct First {
     pub words: [u64; 16],
@@ -48,19 +48,27 @@ impl First {
     pub fn new() -> First {
         First { words: LANES }
     }
-
-    // The words of block b.
-    pub fn words_of(&self, b: u16) -> [u64; 16]
-        requires { b < 1024 }
-        ensures { means.Block b result }
-    {
-        let mut w = self.words;
-        raise(64 * b, &mut w);
-        w
-    }
 }
 
-// A block: its number, and the words of its atoms. They are lent, for a block that is handed out with its words is copied on the way.
+// From the words of block 0 to those of block b, in place: what hands them out copies them, and a list took a tenth to a half longer.
+pub fn to_block(b: u16, w: &mut [u64; 16])
+    requires { (b < 1024) × means.Block 0 w.old }
+    ensures { means.Block b w.new }
+{
+    raise(64 * b, w);
+}
+
+// The words of block b.
+pub fn block_words(b: u16) -> [u64; 16]
+    requires { b < 1024 }
+    ensures { means.Block b result }
+{
+    let mut w = LANES;
+    to_block(b, &mut w);
+    w
+}
+
+// A block: its number, and the words of its atoms. They are lent, since a block with its words in it is copied on the way.
 #[derive(Clone, Copy)]
 pub struct Block<'a> {
     pub number: u16,

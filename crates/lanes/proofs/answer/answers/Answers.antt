@@ -12,7 +12,7 @@ pub returns-then-ok-eq0 : goal.returns-then-ok-eq0
 returns-then-ok-eq0 c =
     let a = c.args in
     λ j l.
-    has_zero j ∙ answer_none a.rules.rows.now a.pairs.now a.flags (64 * a.b + j) (has a.x j) (has c.no_pair-ok.result j) _ (c.words_of-words.ensures.1 j l) (c.no_pair-ok.ensures j l)
+    has_zero j ∙ answer_none a.rules.rows.now a.pairs.now a.flags (64 * a.b + j) (has a.x j) (has c.no_pair-ok.result j) _ (c.to_block.ensures.1 j l) (c.no_pair-ok.ensures j l)
     (ap (λ (y : ℕ). has y j) c.if-ok-eq0.true ∙ has_zero j)
 
 pub supported-requires : goal.supported-requires
@@ -22,5 +22,5 @@ pub returns : goal.returns
 returns c =
     let a = c.args in
     λ j l.
-    answer_lane a.rules.rows.now a.pairs.now a.flags (64 * a.b + j) (has a.x j) (has c.no_pair-ok.result j) _ (c.words_of-words.ensures.1 j l) (c.no_pair-ok.ensures j l)
+    answer_lane a.rules.rows.now a.pairs.now a.flags (64 * a.b + j) (has a.x j) (has c.no_pair-ok.result j) _ (c.to_block.ensures.1 j l) (c.no_pair-ok.ensures j l)
     (c.requires.1 j l) _ (c.supported.ensures j l)
