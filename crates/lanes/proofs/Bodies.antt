@@ -191,11 +191,3 @@ low_more rows lows n y k f g i l = go (ℕ_discrete i n)
     go : Dec (i ≡ n) → LowBody (get_or rows i 0) (get_or (set lows n y) i 0)
     go (yes e) = subst (λ (x : ℕ). LowBody (get_or rows x 0) (get_or (set lows n y) x 0)) (sym e) (subst (λ (x : ℕ). LowBody (get_or rows n 0) x) (sym (get_or-set_same lows n y 0 k)) g)
     go (no e) = subst (λ (x : ℕ). LowBody (get_or rows i 0) x) (sym (get_or-set_other lows n i y 0 e)) (f i (omega arith))
-
--- a row and its low part more, in two lists that are filled together
-pub low_both : (rows lows : List ℕ) (n x y : ℕ) → n < length rows → n < length lows → ((i : ℕ) → i < n → LowBody (get_or rows i 0) (get_or lows i 0)) → LowBody x y
-    → (i : ℕ) → i < n + 1 → LowBody (get_or (set rows n x) i 0) (get_or (set lows n y) i 0)
-low_both rows lows n x y h k f g =
-    low_more (set rows n x) lows n y k
-    (λ i l. subst (λ (r : ℕ). LowBody r (get_or lows i 0)) (sym (get_or-set_other rows n i x 0 (λ e. omega arith))) (f i l))
-    (subst (λ (r : ℕ). LowBody r y) (sym (get_or-set_same rows n x 0 h)) g)

@@ -35,7 +35,7 @@ module _ (q : ℕ → Bool) (i m : ℕ) (e : m ≡ next_from q i) where
 
 -- ---- a rival that is found
 module _ (over : ℕ → ℕ → Bool) (marks : List ℕ) (m i k : ℕ) (e : k ≡ next_from (rival over marks m) i) where
-  found : k < 65536 → T (rival over marks m k)
+  pub found : k < 65536 → T (rival over marks m k)
   found l = next_passes (rival over marks m) i k e l
 
   pub found_marked : k < 65536 → T (marked marks k)

@@ -13,7 +13,10 @@ use lib.Seq.{get_or-set_same, get_or-set_other}
 use Rattle.atoms.specs.Atoms.{has}
 use Rattle.atoms.proofs.Truth.{and_l, and_r, both, same_yes}
 use Rattle.atoms.proofs.Bits.{has_and}
+use Rattle.lpod.specs.Lists.{numbers}
+use Rattle.lpod.proofs.Lists.{keep_strict, numbers_in}
 use Rattle.lanes.specs.Lanes.{Says}
+use Rattle.lanes.specs.Seek.{all_from}
 use Rattle.lanes.specs.Marks.{marked}
 use Rattle.lanes.specs.Left.{Left, Cleared, rival}
 use Rattle.lanes.proofs.Words.{full, has_not}
@@ -91,3 +94,12 @@ module _ (over : ℕ → ℕ → Bool) (M : ℕ) where
           ∙ same_yes (marked after s && over s M) (marked before s && over s M)
           (λ t. both (marked before s) (over s M) (h.less s (and_l (marked after s) (over s M) t)) (and_r (marked after s) (over s M) t))
           (λ t. let u = and_r (marked before s) (over s M) t in both (marked after s) (over s M) (clear_rival s (and_l (marked before s) (over s M) t) u) u)
+
+      -- and k, a rival of M, has fewer: a way up ends
+      pub way_shorter : (k : ℕ) → k < 65536 → T (rival over before M k) → length (all_from (rival over after k) 0) < length (all_from (rival over before M) 0)
+      unfolding all_from
+      way_shorter k l t =
+          let u = and_r (marked before k) (over k M) t in
+          keep_strict (rival over after k) (rival over before M)
+          (λ x v. both (marked before x) (over x M) (h.less x (and_l (marked after x) (over x k) v)) (o.onward x k M (and_r (marked after x) (over x k) v) u))
+          (numbers 0 65536) k (numbers_in 0 65536 k (omega arith) (omega arith)) t (λ v. o.never k (and_r (marked after k) (over k k) v))

@@ -82,9 +82,6 @@ module _ (grades : List ℕ) (n x : ℕ) (f : FirstTo grades n x) where
 abbrev pub FirstsTo : List ℕ → ℕ → ℕ → ℕ → ℕ → Type 0
 FirstsTo rows b among n x = (i j : ℕ) → i < n → j < 64 → T (has among j) → degree (64 * b + j) (rule_in (get_or rows i 0)) ≡ 1 → T (has x i)
 
-pub firsts_none : (rows : List ℕ) (b among x : ℕ) → FirstsTo rows b among 0 x
-firsts_none rows b among x i j h l t e = absurd (omega (arith, h))
-
 module _ (rows : List ℕ) (b among n x : ℕ) (f : FirstsTo rows b among n x) where
   pub firsts_on : n < 32 → FirstsTo rows b among (n + 1) (bit_or x (1 * 2 ^ n % 4294967296))
   unfolding with_bit

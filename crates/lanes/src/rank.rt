@@ -49,7 +49,7 @@ pub fn first_rows(grades: &[u8], n: usize) -> u32
     x
 }
 
-// Rows that are kept, at most 32, and row by row the low parts of their bodies.
+// Rows that are kept, at most 32, and row by row the low parts of their bodies. One count serves both arrays.
 #[derive(Clone, Copy)]
 pub struct Kept {
     rows: [u64; 32],
@@ -141,8 +141,8 @@ fn at_degree(rules: Rules, grades: &[u8], block: Block<'_>, k: u8) -> Level
     requires { (length rules.rows.now ≤ length grades.now) × (1 ≤ k) }
     ensures { (M : ℕ) → Grades rules.entry.rows.now grades.now M → Says block.entry.number result.up (λ s. within (rules_in rules.entry.rows.now) k s M) × Says block.entry.number result.down (λ s. within (rules_in rules.entry.rows.now) k M s) }
 {
-    let mut up: u64 = 0xFFFF_FFFF_FFFF_FFFF;
-    let mut down: u64 = 0xFFFF_FFFF_FFFF_FFFF;
+    let mut up = u64::MAX;
+    let mut down = u64::MAX;
     for (n, &word) in rules.rows.iter().enumerate() {
         let e = exact(word, rules.lows[n], block, k);
         if grades[n] == k {

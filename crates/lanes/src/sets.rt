@@ -1,13 +1,12 @@
 // The answer sets of rows and pairs in words and a flag word: all of them or the best, in lent memory, and the pick. Any words, flag word and slice
 // will do.
-ghost use Rattle.std.specs.Prelude.{◌≡◌, false, ℕ, ◌+◌, ◌/◌, ◌≤◌, ◌<◌, T, length};
+ghost use Rattle.std.specs.Prelude.{◌≡◌, ◌/◌, ◌≤◌, ◌<◌, length};
 ghost use Rattle.lpod.specs.Lists.{keep};
 ghost use Rattle.lpod.specs.Best as bests;
-ghost use Rattle.words.specs.Coded.{rules_in, program_in};
+ghost use Rattle.words.specs.Coded.{program_in};
 ghost use Rattle.lanes.specs.Lanes.{LowBodies};
 ghost use Rattle.lanes.specs.Seek.{number_of, next_from, all_from};
-ghost use Rattle.lanes.specs.Marks.{marked, Within};
-ghost use Rattle.lanes.specs.Tried.{top_of};
+ghost use Rattle.lanes.specs.Marks.{marked, Within, Blank};
 ghost use Rattle.lanes.specs.Rank.{over, ranks};
 ghost use Rattle.lanes.specs.Search.{sought_best};
 ghost use Rattle.lanes.specs.Sets as means;
@@ -50,7 +49,11 @@ fn keep_wanted(rules: Rules, span: Span, which: Which, index: &mut [u32], marks:
     }
     let mut kept = Kept::none();
     kept.add_ranking(rules);
-    let ranking = Ranking::new(kept.rules(), span, &*marks, &mut *index);
+    let all = Marks {
+        words: &*marks,
+        span,
+    };
+    let ranking = Ranking::new(kept.rules(), all, &mut *index);
     ranking.keep_best(&mut *marks);
 }
 
@@ -61,13 +64,17 @@ fn first_best(rules: Rules, span: Span, index: &mut [u32], marks: &mut [u64]) ->
 {
     let mut kept = Kept::none();
     kept.add_ranking(rules);
-    let ranking = Ranking::new(kept.rules(), span, &*marks, &mut *index);
+    let all = Marks {
+        words: &*marks,
+        span,
+    };
+    let ranking = Ranking::new(kept.rules(), all, &mut *index);
     ranking.first_best(&mut *marks)
 }
 
 // Marks the answer sets in words that have no mark. The low parts of the bodies are left in a lent slice.
 fn mark(p: Program, lows: &mut [u64], marks: &mut [u64])
-    requires { (length p.rows.now ≤ length lows.old) × (length marks.old ≡ p.top / 64 + 1) × ((s : ℕ) → marked marks.old s ≡ false) }
+    requires { (length p.rows.now ≤ length lows.old) × Blank marks.old p.top }
     ensures { means.Marked p.entry.rows.now p.entry.pairs.now p.entry.flags p.entry.top marks.new × LowBodies p.entry.rows.now lows.new × (length lows.new ≡ length lows.old) }
 {
     let first = First::new();
@@ -81,7 +88,7 @@ fn mark(p: Program, lows: &mut [u64], marks: &mut [u64])
 
 // Marks the answer sets in words that have no mark, keeps the best where only these are wanted, and lists what is marked.
 fn sets_with(p: Program, which: Which, index: &mut [u32], marks: &mut [u64], out: &mut [u16]) -> u32
-    requires { (length marks.old ≡ p.top / 64 + 1) × ((s : ℕ) → marked marks.old s ≡ false) × (length marks.old ≤ length index.old) }
+    requires { (length marks.old ≤ length index.old) × Blank marks.old p.top }
     ensures { means.FoundSays (means.wanted which (program_in p.entry.rows.now p.entry.pairs.now p.entry.flags)) out.old result out.new }
 {
     let mut lows = [0u64; 32];
@@ -101,7 +108,7 @@ fn sets_with(p: Program, which: Which, index: &mut [u32], marks: &mut [u64], out
 
 // Marks the answer sets in words that have no mark, and answers the least best one.
 fn pick_with(p: Program, index: &mut [u32], marks: &mut [u64]) -> Option<u16>
-    requires { (length marks.old ≡ p.top / 64 + 1) × ((s : ℕ) → marked marks.old s ≡ false) × (length marks.old ≤ length index.old) }
+    requires { (length marks.old ≤ length index.old) × Blank marks.old p.top }
     ensures { means.found result ≡ bests.pick (program_in p.entry.rows.now p.entry.pairs.now p.entry.flags) }
 {
     let mut lows = [0u64; 32];
@@ -115,22 +122,26 @@ fn pick_with(p: Program, index: &mut [u32], marks: &mut [u64]) -> Option<u16>
 
 // The sets that are wanted, found in arrays of N words.
 fn sets_in<const N: usize>(p: Program, which: Which, out: &mut [u16]) -> u32
-    requires { (p.top / 64 < N) × (N ≤ 1024) }
+    requires enough { p.top / 64 < N }
+    requires bounded { N ≤ 1024 }
     ensures { means.FoundSays (means.wanted which (program_in p.entry.rows.now p.entry.pairs.now p.entry.flags)) out.old result out.new }
 {
     let mut index = [0u32; N];
     let mut marks = [0u64; N];
-    sets_with(p, which, &mut index, &mut marks[..p.words()], &mut *out)
+    let lent = &mut marks[..p.words()];
+    sets_with(p, which, &mut index, lent, &mut *out)
 }
 
 // The pick, found in arrays of N words.
 fn pick_in<const N: usize>(p: Program) -> Option<u16>
-    requires { (p.top / 64 < N) × (N ≤ 1024) }
+    requires enough { p.top / 64 < N }
+    requires bounded { N ≤ 1024 }
     ensures { means.found result ≡ bests.pick (program_in p.entry.rows.now p.entry.pairs.now p.entry.flags) }
 {
     let mut index = [0u32; N];
     let mut marks = [0u64; N];
-    pick_with(p, &mut index, &mut marks[..p.words()])
+    let lent = &mut marks[..p.words()];
+    pick_with(p, &mut index, lent)
 }
 
 // How many sets there are: all answer sets, or the best of them. Where the lent slice has room for all they stand at its start, rising; else it is

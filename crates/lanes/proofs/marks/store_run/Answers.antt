@@ -1,18 +1,10 @@
 -- `marks::store_run` counts up. What is kept: the numbers that are left, stored from their place on, leave what all of them do. Assumes nothing.
-use mathlib.Core.Path.{◌≡◌, refl, sym, ◌∙◌}
-use Prim.Native.Nat.{◌+◌, ◌-◌}
+use mathlib.Core.Path.{◌≡◌, sym, ◌∙◌}
+use Prim.Native.Nat.{◌+◌}
 use native.Mathlib.Omega.{arith}
 use lib.ListN.{length-set}
 use Rattle.lanes.proofs.Stored.{run_more, run_done}
 use Rattle.lanes.proofs.marks.store_run.Goals as goal
-
-pub loop-n-init : goal.loop-n-init
-loop-n-init c =
-    let a = c.args in
-    let e : a.i + a.many - (a.i + 0) ≡ a.many = omega arith in
-    let f : a.k + 0 ≡ a.k = omega arith in
-    let g : a.i + 0 ≡ a.i = omega arith in
-    (refl, rw (e, f, g) refl)
 
 pub loop-n-preserved : goal.loop-n-preserved
 loop-n-preserved c =

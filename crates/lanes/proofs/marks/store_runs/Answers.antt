@@ -1,13 +1,7 @@
 -- `marks::store_runs` goes from run to run. Assumes nothing.
 use Rattle.std.proofs.Common.{arith}
-use Rattle.lanes.proofs.Runs.{to_store, run_here, run_room, run_turn, all_stored}
+use Rattle.lanes.proofs.Runs.{run_here, run_room, run_turn, all_stored}
 use Rattle.lanes.proofs.marks.store_runs.Goals as goal
-
-pub loop-x-init : goal.loop-x-init
-loop-x-init c = let a = c.args in to_store a.marks.now a.b a.out.now a.k
-
-pub overflow_shr-y : goal.overflow_shr-y
-overflow_shr-y c = (run_here c.loop-x.invariant (c.type_inv.marks c.args.b).fits c.loop-x-test.true).low
 
 pub store_run-requires : goal.store_run-requires
 store_run-requires c =
@@ -15,11 +9,6 @@ store_run-requires c =
     let r = run_here h (c.type_inv.marks c.args.b).fits c.loop-x-test.true in
     let n = run_room h r in
     (omega arith, omega (arith, h.long), omega arith)
-
-pub overflow_add-at : goal.overflow_add-at
-overflow_add-at c =
-    let h = c.loop-x.invariant in
-    omega (arith, run_room h (run_here h (c.type_inv.marks c.args.b).fits c.loop-x-test.true))
 
 pub overflow_sub-x : goal.overflow_sub-x
 overflow_sub-x c = let r = run_here c.loop-x.invariant (c.type_inv.marks c.args.b).fits c.loop-x-test.true in omega arith
@@ -32,9 +21,6 @@ loop-x-preserved c =
     let h = c.loop-x.invariant in
     let r = run_here h (c.type_inv.marks c.args.b).fits c.loop-x-test.true in
     run_turn h r _ _ c.store_run.ensures r.left
-
-pub shape_of-out : goal.shape_of-out
-shape_of-out c = c.loop-x.invariant.long
 
 pub returns : goal.returns
 returns c = all_stored c.loop-x.invariant c.loop-x-test.false

@@ -1,17 +1,6 @@
 -- `sets::sets_in` lends as many words as there are blocks up to top. Assumes nothing.
-use Prim.Native.Nat.{◌+◌, ◌/◌}
-use native.Mathlib.Omega.{arith}
 use Rattle.lanes.proofs.Listed.{lent_words}
 use Rattle.lanes.proofs.sets.sets_in.Goals as goal
 
-pub whole_as_slice-sets_with : goal.whole_as_slice-sets_with
-whole_as_slice-sets_with g c = omega (arith, c.requires.1)
-
-pub whole_as_front-sets_with : goal.whole_as_front-sets_with
-whole_as_front-sets_with g c = (omega (arith, c.words.ensures, c.requires.0), omega (arith, c.requires.1))
-
 pub sets_with-requires : goal.sets_with-requires
-sets_with-requires g c =
-    let p = c.args.p in
-    let n = c.words in
-    lent_words (p.top / 64 + 1) n.result g.row.N n.ensures (omega (arith, c.requires.0))
+sets_with-requires g c = lent_words c.args.p.top c.words.result g.row.N c.words.ensures c.requires.enough

@@ -1,7 +1,6 @@
 -- `marks::Marks::count` goes from block to block. What is kept: the sets counted, with those from block b on, are all, and block b lies between low and
 -- high where it is one. Past the last word no set is marked. Assumes nothing.
 use mathlib.Core.Path.{ap}
-use Prim.Native.Nat.{◌<◌}
 use native.Mathlib.Omega.{arith}
 use lib.Count.{ones-le}
 use lib.ListN.{length, get_or}
@@ -24,12 +23,6 @@ overflow_add-n c =
     let marks = c.args.self.words.now in
     let b = c.loop-b.b in
     omega (arith, all_length (marked marks) 0, c.loop-b.invariant.2, ones-le 64 (get_or marks b 0) (omega (arith, c.type_inv.words b)))
-
-pub next-b-requires : goal.next-b-requires
-next-b-requires c =
-    let h = c.loop-b in
-    let l : h.b < 1024 = omega arith in
-    (l, (h.invariant.1 l).0, (h.invariant.1 l).1)
 
 pub loop-b-preserved : goal.loop-b-preserved
 loop-b-preserved c =

@@ -1,34 +1,16 @@
 -- `marks::Marks::from_block` goes from block to block. What is kept: the least marked set from block b on is the least from block c on, and block c lies
 -- between low and high where it is one. Past the last word no set is marked. Assumes nothing.
-use mathlib.Core.Path.{refl, sym, ◌∙◌}
-use Prim.Native.Nat.{◌*◌, ◌^◌, ◌<◌}
+use mathlib.Core.Path.{sym, ◌∙◌}
+use Prim.Native.Nat.{◌*◌}
 use native.Mathlib.Omega.{arith}
-use Rattle.std.proofs.Common.{rules}
-use lib.ListN.{get_or}
 use Rattle.lanes.proofs.Seek.{next_none}
-use Rattle.lanes.proofs.Marked.{word_none, trailing_below, word_first, next_on_block, none_past}
+use Rattle.lanes.proofs.Marked.{word_none, word_first, next_on_block, none_past}
 use Rattle.lanes.proofs.marks.Marks.from_block.Goals as goal
-
-pub loop-c-init : goal.loop-c-init
-loop-c-init c = (c.requires.0, c.requires.1, refl)
-
-pub overflow_add-result : goal.overflow_add-result
-overflow_add-result c =
-    let m = c.args.self.words.now in
-    let h = c.loop-c in
-    let small : get_or m h.c 0 < 2 ^ 64 = search rules in
-    omega (arith, trailing_below (get_or m h.c 0) small c.if-x-ne0.true)
 
 pub returns-then-x-ne0 : goal.returns-then-x-ne0
 returns-then-x-ne0 c =
     let h = c.loop-c in
     sym (h.invariant.2 ∙ word_first c.args.self.words.now h.c (omega arith) c.if-x-ne0.true (omega arith))
-
-pub next-c-requires : goal.next-c-requires
-next-c-requires c =
-    let h = c.loop-c in
-    let l : h.c < 1024 = omega arith in
-    (l, (h.invariant.1 l).0, (h.invariant.1 l).1)
 
 pub loop-c-preserved : goal.loop-c-preserved
 loop-c-preserved c =

@@ -28,12 +28,6 @@ store_block-k-requires c =
     let le = block_le marks h.b few in
     (few, omega arith, omega (arith, h.invariant.3, all_length (marked marks) 0), omega (arith, h.invariant.2, h.invariant.3, c.requires))
 
-pub next-b-requires : goal.next-b-requires
-next-b-requires c =
-    let h = c.loop-b in
-    let l : h.b < 1024 = omega arith in
-    (l, (h.invariant.1 l).0, (h.invariant.1 l).1)
-
 pub loop-b-preserved : goal.loop-b-preserved
 loop-b-preserved c =
     let e = c.store_block-k.ensures in
@@ -49,9 +43,6 @@ loop-b-preserved c =
       omega (arith, h.invariant.3, ap length parts, length-append here later, e.1),
       h.invariant.4 ∙ part_stored (all_from (marked a.self.words.now) (64 * h.b)) here later h.out _ h.k _ parts e.0 e.1,
     )
-
-pub shape_of-out : goal.shape_of-out
-shape_of-out c = c.loop-b.invariant.2
 
 pub returns : goal.returns
 returns c =

@@ -9,12 +9,6 @@ use Rattle.lanes.proofs.RankedRows.{word_heads, keep_on, keep_off, keep_none}
 use Rattle.lanes.proofs.rank.Kept.add_ranking.Goals as goal
 use Rattle.lanes.proofs.rank.Kept.add_ranking.Goals.{then-head_count-gt1, else-head_count-gt1}
 
-pub loop-n-init : goal.loop-n-init
-loop-n-init c = (omega (arith, c.requires.1), rw c.requires.1 refl)
-
-pub push-requires : goal.push-requires
-push-requires c = (omega (arith, c.requires.0, c.loop-n.invariant.0), c.args.rules.bodies c.loop-n.n (omega arith))
-
 pub loop-n-preserved : goal.loop-n-preserved
 loop-n-preserved c =
     let h = c.loop-n in

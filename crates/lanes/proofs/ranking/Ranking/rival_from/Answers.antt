@@ -9,22 +9,12 @@ use lib.ListN.{length}
 use Rattle.atoms.proofs.Truth.{true_yes}
 use Rattle.lanes.specs.Left.{rival, Cleared, beats}
 use Rattle.lanes.proofs.Seek.{NoneBetween, next_none}
-use Rattle.lanes.proofs.Marked.{trailing_below}
 use Rattle.lanes.proofs.Scan.{word_none, word_first, scan_on, scan_end}
 use Rattle.lanes.proofs.Index.{none_first, no_rival}
 use Rattle.lanes.proofs.Clearing.{clear_none, clear_more, rivals_before}
 use Rattle.lanes.proofs.Champion.{by_rows}
 use Rattle.lanes.proofs.ranking.Ranking.rival_from.Goals as goal
 use Rattle.lanes.proofs.ranking.Ranking.rival_from.Goals.{then-first-self+else-x-ne0, else-first-self}
-
-pub grade-requires : goal.grade-requires
-grade-requires c = omega (arith, c.args.self.now.few)
-
-pub first_rows-first-requires : goal.first_rows-first-requires
-first_rows-first-requires c = let h = c.args.self.now.few in (h, omega (arith, h, c.grade.ensures.1))
-
-pub all_first-requires : goal.all_first-requires
-all_first-requires c = c.args.self.now.few
 
 pub returns-then-all_first : goal.returns-then-all_first
 returns-then-all_first c =
@@ -34,27 +24,6 @@ returns-then-all_first c =
           (λ x i l. no_rival _ _ _ a.m f.result c.grade.ensures.0 f.ensures (subst T c.all_first.ensures (true_yes c.if-all_first.true)) x)),
       clear_none _ _ _,
     )
-
-pub loop-c-init : goal.loop-c-init
-loop-c-init c = let p = c.requires in (omega (arith, p.3), λ l. (p.1, p.2), refl, clear_none _ _ _)
-
-pub bounds-self-c : goal.bounds-self-c
-bounds-self-c c = omega (arith, c.loop-c-test.true, c.requires.0.fit, c.loop-c.invariant.3.same)
-
-pub meet-x-requires : goal.meet-x-requires
-meet-x-requires c =
-    let p = c.requires in
-    let g = c.grade.ensures in
-    (omega (arith, c.args.self.now.few, g.1), g.0, omega (arith, c.loop-c-test.true, p.0.few, c.loop-c.invariant.3.same), omega arith)
-
-pub overflow_add-result : goal.overflow_add-result
-overflow_add-result c =
-    let x = c.meet-x in
-    let small = trailing_below x.result (omega (arith, x.type_inv)) c.if-x-ne0.true in
-    omega (arith, c.requires.0.few, c.loop-c-test.true, c.loop-c.invariant.3.same, small)
-
-pub shape_of-marks-then-x-ne0 : goal.shape_of-marks-then-x-ne0
-shape_of-marks-then-x-ne0 c = c.meet-x.ensures.1.same ∙ c.loop-c.invariant.3.same
 
 pub returns-then-x-ne0 : goal.returns-then-x-ne0
 returns-then-x-ne0 c =
@@ -66,15 +35,6 @@ returns-then-x-ne0 c =
           (omega (arith, c.loop-c-test.true, c.requires.0.few, f.same))),
       clear_more _ _ _ _ _ f x.ensures.1,
     )
-
-pub next-c-requires : goal.next-c-requires
-next-c-requires c =
-    let h = c.loop-c in
-    let l : h.c < 1024 = omega (arith, c.loop-c-test.true, c.requires.0.few, h.invariant.3.same) in
-    (l, (h.invariant.1 l).0, (h.invariant.1 l).1)
-
-pub loop-c-smaller : goal.loop-c-smaller
-loop-c-smaller c = omega (arith, c.next-c.ensures.0, c.next-c.ensures.1)
 
 pub loop-c-preserved : goal.loop-c-preserved
 loop-c-preserved c =
@@ -101,9 +61,6 @@ loop-c-preserved c =
         | else-first-self v ↦ subst (Cleared o a.m a.marks.now) (sym v.marks-is) f
       ],
     )
-
-pub shape_of-marks : goal.shape_of-marks
-shape_of-marks c = c.loop-c.invariant.3.same
 
 pub returns : goal.returns
 returns c =
