@@ -36,6 +36,7 @@ pub fn answers(
         high: top / 64,
     };
     let x = between(first, flags, top);
+    // The blocks between are not a range of numbers: each says which is the next.
     let mut b = span.low;
     while (b as usize) < marks.len() {
         marks[b as usize] = answer::answers(rules, first, pairs, flags, b, x);
