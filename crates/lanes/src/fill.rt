@@ -3,12 +3,13 @@ ghost use Rattle.std.specs.Prelude.{◌≡◌, false, ◌&&◌, ℕ, ◌+◌, �
 ghost use Rattle.atoms.specs.Atoms.{has, inside};
 ghost use Rattle.lpod.specs.Answer.{answer};
 ghost use Rattle.words.specs.Coded.{program_in};
-ghost use Rattle.lanes.specs.Marks.{marked};
+ghost use Rattle.lanes.specs.Marks.{marked, Blank};
 ghost use Rattle.lanes.specs.Tried.{tried};
 
 use super::rules::Rules;
+use super::span::Span;
 use super::word::First;
-use super::{answer, blocks, word};
+use super::{answer, word};
 
 // The lanes whose six atoms lie between those of the flags and those of top: the sets of block 0 have no other atoms.
 fn between(first: &First, flags: u16, top: u16) -> u64
@@ -27,15 +28,18 @@ pub fn answers(
     top: u16,
     marks: &mut [u64],
 )
-    requires { T (inside flags top) × (length marks.old ≡ top / 64 + 1) × ((s : ℕ) → marked marks.old s ≡ false) }
+    requires { T (inside flags top) × Blank marks.old top }
     ensures { (length marks.new ≡ length marks.old) × ((s : ℕ) → marked marks.new s ≡ tried (answer (program_in rules.entry.rows.now pairs.now flags)) flags top s) }
 {
-    let low = flags / 64;
-    let high = top / 64;
+    let span = Span {
+        low: flags / 64,
+        high: top / 64,
+    };
     let x = between(first, flags, top);
-    let mut b = low;
+    // The blocks between are not a range of numbers: each says which is the next.
+    let mut b = span.low;
     while (b as usize) < marks.len() {
         marks[b as usize] = answer::answers(rules, first, pairs, flags, b, x);
-        b = blocks::next_block(b, low, high);
+        b = span.next(b);
     }
 }

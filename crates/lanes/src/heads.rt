@@ -10,6 +10,7 @@ use words::row;
 fn with_head(word: u64, s: u16) -> u16
     ensures { result ≡ union s (atoms_of (rule_in word).head) }
 {
+    // A fold over the places is not proved: a range says nothing of its items to one.
     let mut t = s;
     for k in 0..row::head_count(word) {
         t = atoms::with_atom(t, row::head_atom(word, k));

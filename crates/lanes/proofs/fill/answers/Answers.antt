@@ -9,15 +9,18 @@ use Rattle.words.specs.Coded.{program_in}
 use Rattle.lanes.proofs.Filled.{filled_none, filled_more, filled_all, inside_high, inside_self, lane_flags, lane_passes}
 use Rattle.lanes.proofs.fill.answers.Goals as goal
 
+pub invariant_of-span : goal.invariant_of-span
+invariant_of-span c = record { order = inside_high c.args.flags c.args.top c.requires.0 }
+
 pub loop-b-init : goal.loop-b-init
 loop-b-init c =
     let a = c.args in
     record {
-      long = c.requires.1;
+      long = c.requires.1.0;
       small = c.ranges.top.fits;
       most = omega arith;
       between = λ l. (inside_self (a.flags / 64), inside_high a.flags a.top c.requires.0);
-      filled = filled_none (answer (program_in a.rules.rows.now a.pairs.now a.flags)) a.flags a.top a.marks.now c.requires.2;
+      filled = filled_none (answer (program_in a.rules.rows.now a.pairs.now a.flags)) a.flags a.top a.marks.now c.requires.1.1;
     }
 
 pub answers-requires : goal.answers-requires
@@ -26,8 +29,8 @@ answers-requires c =
     let l : h.b < 1024 = omega arith in
     (l, lane_flags c.args.flags c.args.top h.b _ (h.invariant.between l).0 c.between-x.ensures)
 
-pub next_block-b-requires : goal.next_block-b-requires
-next_block-b-requires c =
+pub next-b-requires : goal.next-b-requires
+next-b-requires c =
     let h = c.loop-b in
     let l : h.b < 1024 = omega arith in
     (l, (h.invariant.between l).0, (h.invariant.between l).1)
@@ -38,7 +41,7 @@ loop-b-preserved c =
     let h = c.loop-b in
     let k = h.invariant in
     let l : h.b < 1024 = omega arith in
-    let n = c.next_block-b in
+    let n = c.next-b in
     let y = c.answers in
     let q = answer (program_in a.rules.rows.now a.pairs.now a.flags) in
     record {

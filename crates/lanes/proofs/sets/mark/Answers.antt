@@ -10,7 +10,7 @@ pub answers-requires : goal.answers-requires
 answers-requires c =
     let p = c.args.p in
     let w : p.flags < 65536 = omega arith in
-    (flags_top p.rows.now p.pairs.now p.flags w p.top p.highest, c.requires.1.0, c.requires.1.1)
+    (flags_top p.rows.now p.pairs.now p.flags w p.top p.highest, c.requires.1)
 
 pub returns : goal.returns
 returns c =
