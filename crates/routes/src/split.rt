@@ -35,7 +35,7 @@ fn too_many(rows: &[u64]) -> bool
     false
 }
 
-// A row and which of its options is taken, counted from 0.
+// A row and which of its options is taken, counted from 0. A choice for several rows has the last row first, as they are chosen from the last one on.
 #[derive(Clone, Copy, Default)]
 struct Chosen {
     row: u64,
@@ -68,8 +68,6 @@ impl Chosen {
     }
 }
 
-// A choice has the last row first, as the rows are chosen from the last one on.
-//
 // One round from s of the split program that is chosen: all its rules whose body holds in s fire together. A flag's rule has no body.
 fn round(choice: &[Chosen], flags: u16, set: u16, s: u16) -> u16
     ensures { result ≡ fire (gl_reduct (choices.program_of choice.now flags) set) s s }
