@@ -72,6 +72,7 @@ fn raised(flags: u16, m: u16, n: u16) -> Option<Difference>
 }
 
 // m is preferred to n: at the least degree where the two differ, some row has it in m alone and no row has it in n alone.
+#[tactic(auto, using(crate::proofs::LeastKept::rows_next), unfolding(words::specs::Coded::rules_in))]
 pub fn preferred(rows: &[u64], flags: u16, m: u16, n: u16) -> bool
     ensures { means.PreferredSays rows.now flags m n result }
 {
