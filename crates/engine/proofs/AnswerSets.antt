@@ -85,7 +85,7 @@ module _ (page : List ℕ) (flags : ℕ) (w : flags < 2 ^ 16) (z : 0 ≡ flag_no
   unfolding program_of
   whole = ap (λ (l : List ℕ). program_in l pairs flags) (take_all 32 rows few)
 
-  made_sets : (which : Which) → wanted which (program_of rows pairs flags) ≡ wanted which (program page flags)
+  pub made_sets : (which : Which) → wanted which (program_of rows pairs flags) ≡ wanted which (program page flags)
   unfolding program_in
   made_sets which =
       let g = flag_page page flags (sym z) in
@@ -97,6 +97,6 @@ module _ (page : List ℕ) (flags : ℕ) (w : flags < 2 ^ 16) (z : 0 ≡ flag_no
       → FoundSays (wanted which (program page flags)) out r after
   sets_found which out r after s = found_same out (made_sets which) s
 
-  pub pick_made : pick (program_of rows pairs flags) ≡ pick (program page flags)
+  pub made_pick : pick (program_of rows pairs flags) ≡ pick (program page flags)
   unfolding pick wanted
-  pick_made = ap first_of (made_sets Best)
+  made_pick = ap first_of (made_sets Best)

@@ -13,7 +13,7 @@ returns-then-out-count c =
     let a = c.args in
     let z = c.in_ok-check_flags.ensures in
     let s = sets_found a.page.now a.flags c.ranges.flags.fits z _ (c.deref.ensures.0 ∙ c.row_words-rows.ensures) c.deref.ensures.1
-        _ (c.deref-2.ensures.0 ∙ c.pair_words-pairs.ensures) a.which a.out.now _ _ c.sets-count.ensures in
+    _ (c.deref-2.ensures.0 ∙ c.pair_words-pairs.ensures) a.which a.out.now _ _ c.sets-count.ensures in
     says_short _ _ _ _ z _ _ s (omega arith)
 
 pub returns : goal.returns
@@ -21,5 +21,5 @@ returns c =
     let a = c.args in
     let z = c.in_ok-check_flags.ensures in
     let s = sets_found a.page.now a.flags c.ranges.flags.fits z _ (c.deref.ensures.0 ∙ c.row_words-rows.ensures) c.deref.ensures.1
-        _ (c.deref-2.ensures.0 ∙ c.pair_words-pairs.ensures) a.which a.out.now _ _ c.sets-count.ensures in
+    _ (c.deref-2.ensures.0 ∙ c.pair_words-pairs.ensures) a.which a.out.now _ _ c.sets-count.ensures in
     says_stored _ _ _ _ z _ _ s (omega arith)
