@@ -1,8 +1,9 @@
--- How many choices of options pass a test, counted row by row. It is the sum, over the first row's options, of the counts for the rows after it with
--- the option in front; over the rows of flags too it is the count with the flags' options behind. By induction on the rows. Assumes nothing.
+-- How many choices of options pass a test, counted row by row. Over the rows and one more it is the sum, over that row's options, of the counts with
+-- the option behind; over the rows of flags too it is the count with the flags' options behind. By induction on the rows, the sums being
+-- exchanged. Assumes nothing.
 use mathlib.Core.Path.{◌≡◌, refl, sym, ap, ◌∙◌}
 use mathlib.Core.Bool.{Bool, true, false, ◌&&◌, cond}
-use mathlib.Core.List.{List, [], ◌∷◌, ◌++◌, map, append_assoc}
+use mathlib.Core.List.{List, [], ◌∷◌, ◌++◌, map, append_assoc, reverse-append}
 use Prim.Native.Nat.{ℕ, suc, ◌+◌, ◌-◌, ◌≤◌, ◌<◌, max}
 use native.Mathlib.Nat.{add-zero}
 use native.Mathlib.Omega.{arith}
@@ -20,7 +21,7 @@ use Rattle.lpod.proofs.ReductIsSplit.{split_number_lem}
 use Rattle.words.specs.Coded.{rule_in, rules_in, pairs_in, program_in}
 use Rattle.routes.specs.Choice.{option_at, chosen, all_chosen, flag_options, count_from}
 use Rattle.routes.specs.declared.split.Chosen.{Chosen}
-use Rattle.routes.proofs.SplitSums.{sum_over, sum_below, sum_same, below_same, below_more, below_part, options_sum}
+use Rattle.routes.proofs.SplitSums.{sum_over, sum_below, sum_same, sum_swap, below_same, below_more, below_part, options_sum}
 use Rattle.routes.proofs.SplitNumber.{row_options, number_down}
 
 -- ---- how many choices pass
@@ -56,6 +57,16 @@ count_row p r P =
     keep_gather p (λ o. map (λ C. o ∷ C) (choices P)) (options r)
     ∙ sum_same (options r) (λ o. length (keep p (map (λ C. o ∷ C) (choices P)))) (λ o. count (λ C. p (o ∷ C)) P) (λ o. keep_map p (λ C. o ∷ C) (choices P))
 
+-- one row more, behind the others
+count_last : (p : List Option → Bool) (P : List Rule) (r : Rule) → count p (P ++ r ∷ []) ≡ sum_over (options r) (λ o. count (λ C. p (C ++ o ∷ [])) P)
+unfolding choices keep
+count_last p [] r = count_row p r []
+count_last p (a ∷ P) r =
+    count_row p a (P ++ r ∷ [])
+    ∙ sum_same (options a) _ (λ o. sum_over (options r) (λ q. count (λ C. p (o ∷ (C ++ q ∷ []))) P)) (λ o. count_last (λ C. p (o ∷ C)) P r)
+    ∙ sum_swap (options a) (options r) (λ o q. count (λ C. p (o ∷ (C ++ q ∷ []))) P)
+    ∙ sum_same (options r) _ (λ q. count (λ C. p (C ++ q ∷ [])) (a ∷ P)) (λ q. sym (count_row (λ C. p (C ++ q ∷ [])) a P))
+
 -- the rows of flags: each has its one option
 facts_alone : (p : List Option → Bool) (l : List ℕ) → count p (map fact l) ≡ count (λ C. p (C ++ map (λ a. gives a [] []) l)) []
 unfolding choices keep fact options options_of options_from sum_over
@@ -89,30 +100,30 @@ module _ (flags s : ℕ) where
       one true = refl
       one false = refl
 
-  -- the options of the first row, one after the other
-  module _ (r : Rule) (P : List Rule) (O : List Option) where
+  -- the options of the last row, one after the other
+  module _ (P : List Rule) (r : Rule) (O : List Option) where
     abbrev pub with_option : ℕ → ℕ
-    with_option k = count_from P flags s (O ++ option_at r k ∷ [])
+    with_option k = count_from P flags s (option_at r k ∷ O)
 
-    behind : List Option → Bool
-    behind C = split_answer (O ++ (C ++ flag_options flags)) s
+    before : List Option → Bool
+    before C = split_answer (C ++ (O ++ flag_options flags)) s
 
-    pub count_step : count_from (r ∷ P) flags s O ≡ sum_below (max 1 (length r.head)) with_option
-    unfolding count_from sum_below behind
+    pub count_step : count_from (P ++ r ∷ []) flags s O ≡ sum_below (max 1 (length r.head)) with_option
+    unfolding count_from sum_below before
     count_step =
-        count_row behind r P ∙ options_sum r (λ o. count (λ C. behind (o ∷ C)) P) ∙ rw (row_options r.head)
+        count_last before P r ∙ options_sum r (λ o. count (λ C. before (C ++ o ∷ [])) P) ∙ rw (row_options r.head)
         (below_same (max 1 (length r.head)) _ with_option
-        (λ k. count_same _ _ P (λ C. ap (λ D. split_answer D s) (sym (append_assoc O (option_at r k ∷ []) (C ++ flag_options flags))))))
+        (λ k. count_same _ _ P (λ C. ap (λ D. split_answer D s) (append_assoc C (option_at r k ∷ []) (O ++ flag_options flags)))))
 
     -- the counts so far and the next one are no more than there are split programs
-    pub count_room : (k : ℕ) → k < max 1 (length r.head) → sum_below k with_option + with_option k ≤ split_number (r ∷ P)
-    unfolding count_from behind
+    pub count_room : (k : ℕ) → k < max 1 (length r.head) → sum_below k with_option + with_option k ≤ split_number (P ++ r ∷ [])
+    unfolding count_from before
     count_room k lk =
         let a : sum_below (k + 1) with_option ≤ sum_below (max 1 (length r.head)) with_option
         = below_part (k + 1) (max 1 (length r.head)) _ (omega arith) in
         let b = below_more k with_option in
         let c = count_step in
-        let d : count_from (r ∷ P) flags s O ≤ split_number (r ∷ P) = count_most behind (r ∷ P) in
+        let d : count_from (P ++ r ∷ []) flags s O ≤ split_number (P ++ r ∷ []) = count_most before (P ++ r ∷ []) in
         omega arith
 
   module _ (rows pairs : List ℕ) where
@@ -142,31 +153,31 @@ count_end flags s [] O e b eb r er = er ∙ one b ∙ count_zero flags s O b eb
     one false = refl
 count_end flags s (w ∷ rows) O e b eb r er = absurd (omega arith)
 
-module _ (rows rest : List ℕ) (row : ℕ) (e : rows ≡ row ∷ rest) where
-  rows_first : rules_in rows ≡ rule_in row ∷ rules_in rest
+module _ (rows rest : List ℕ) (row : ℕ) (e : rows ≡ rest ++ row ∷ []) where
+  rows_last : rules_in rows ≡ rules_in rest ++ rule_in row ∷ []
   unfolding rules_in
-  rows_first = rw e
+  rows_last = rw (e, map-append)
 
   pub rows_fewer : split_number (rules_in rest) ≤ split_number (rules_in rows)
-  rows_fewer = rw rows_first (number_down (rule_in row) (rules_in rest))
+  rows_fewer = rw rows_last (number_down (rules_in rest) (rule_in row))
 
-module _ (flags s : ℕ) (rows rest : List ℕ) (row : ℕ) (e : rows ≡ row ∷ rest) (choice : List Chosen) where
+module _ (flags s : ℕ) (rows rest : List ℕ) (row : ℕ) (e : rows ≡ rest ++ row ∷ []) (choice : List Chosen) where
   abbrev pub with_row : ℕ → ℕ
-  with_row = with_option flags s (rule_in row) (rules_in rest) (all_chosen choice)
+  with_row = with_option flags s (rules_in rest) (rule_in row) (all_chosen choice)
 
   -- the sum over all options is the whole count
   pub rows_counted : (k : ℕ) → k ≡ max 1 (length (rule_in row).head) → (r : ℕ) → r ≡ sum_below k with_row → r ≡ count_from (rules_in rows) flags s (all_chosen choice)
   rows_counted k ek r er =
-      er ∙ rw (ek, rows_first rows rest row e) (sym (count_step flags s (rule_in row) (rules_in rest) (all_chosen choice)))
+      er ∙ rw (ek, rows_last rows rest row e) (sym (count_step flags s (rules_in rest) (rule_in row) (all_chosen choice)))
 
   pub rows_room : (k : ℕ) → k < max 1 (length (rule_in row).head) → sum_below k with_row + with_row k ≤ split_number (rules_in rows)
-  rows_room k l = rw (rows_first rows rest row e) (count_room flags s (rule_in row) (rules_in rest) (all_chosen choice) k l)
+  rows_room k l = rw (rows_last rows rest row e) (count_room flags s (rules_in rest) (rule_in row) (all_chosen choice) k l)
 
-  -- the call for the rows after it, with one row more chosen
+  -- the call for the rows before it, with one row more chosen
   pub row_counted : (k : ℕ) (more : List Chosen) → more ≡ choice ++ record { row = row; option = k } ∷ [] → (r : ℕ)
       → r ≡ count_from (rules_in rest) flags s (all_chosen more) → r ≡ with_row k
   unfolding all_chosen chosen
-  row_counted k more em r er = er ∙ rw (em, map-append)
+  row_counted k more em r er = er ∙ rw (em, reverse-append)
 
 -- what was added last is let go again
 pub popped : (choice more less : List Chosen) (c : Chosen) → more ≡ choice ++ c ∷ [] → less ≡ take (length more - 1) more → less ≡ choice

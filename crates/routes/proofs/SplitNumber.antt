@@ -4,7 +4,7 @@ use mathlib.Core.Path.{◌≡◌, refl, sym, ◌∙◌}
 use mathlib.Core.Bool.{true, false}
 use mathlib.Core.List.{List, [], ◌∷◌, ◌++◌, map}
 use Prim.Native.Nat.{ℕ, ◌+◌, ◌*◌, ◌≤◌, ◌<◌, max}
-use native.Mathlib.Nat.{mul_assoc, mul-one, one-mul, mul-pos, le-mul_of_pos_right, mul_comm}
+use native.Mathlib.Nat.{mul_assoc, mul-one, one-mul, mul-pos, le-mul_of_pos_right}
 use native.Mathlib.Omega.{arith}
 use lib.Dec.{ltb}
 use lib.ListN.{length, get_or, drop}
@@ -51,9 +51,8 @@ unfolding rules program raised
 number_flags page flags = number_append (rows_of page) (map fact (keep (has flags) (below 16))) ∙ rw (number_facts (keep (has flags) (below 16)), mul-one)
 
 -- with one row fewer there are no more
-pub number_down : (r : Rule) (P : List Rule) → split_number P ≤ split_number (r ∷ P)
-unfolding split_number
-number_down r P = rw (mul_comm (option_count r.head) (split_number P)) (le-mul_of_pos_right (split_number P) (options_some r.head))
+pub number_down : (P : List Rule) (r : Rule) → split_number P ≤ split_number (P ++ r ∷ [])
+number_down P r = rw (number_append P (r ∷ [])) (le-mul_of_pos_right (split_number P) (number_some (r ∷ [])))
 
 -- ---- the product so far, and that of the rows left
 pub number_first : (rows : List ℕ) → split_number (rules_in rows) ≡ 1 * split_number (map rule_in (drop 0 rows))

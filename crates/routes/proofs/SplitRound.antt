@@ -1,8 +1,9 @@
 -- One round of a chosen split program, row by row: the option of each row fires in turn, and the flags' atoms come in at the end. By induction on the
 -- rows, and by membership. Assumes nothing.
 use mathlib.Core.Path.{◌≡◌, refl, sym, ap, ◌∙◌, subst}
-use mathlib.Core.Bool.{true, ◌||◌, and-true, or-false, or_assoc}
-use mathlib.Core.List.{List, [], ◌∷◌, ◌++◌, map}
+use mathlib.Core.Bool.{Bool, true, ◌&&◌, ◌||◌, and-true, and_comm, or-false, or_assoc}
+use mathlib.Core.List.{List, [], ◌∷◌, ◌++◌, map, reverse, reverse-cons}
+use Rattle.std.proofs.lemmas.List.{map-append}
 use Prim.Native.Nat.{ℕ, ◌^◌, ◌<◌}
 use native.Mathlib.Omega.{arith}
 use lib.Dec.{T, eqb, eqb→eq, eqb_refl}
@@ -25,11 +26,15 @@ unfolding gl_reduct
 fire_joined C E set s t = ap (λ (D : List Definite). fire D s t) (gather_append (gl_row set) C E) ∙ fire_append (gather (gl_row set) C) (gather (gl_row set) E) s t
 
 -- ---- the rows
-pub all_fire : (l : List Chosen) (set s t : ℕ) → fold (λ t c. fire (gl_row set (chosen c)) s t) t l ≡ fire (gl_reduct (all_chosen l) set) s t
-unfolding gl_reduct gather all_chosen fire
-all_fire [] set s t = refl
-all_fire (c ∷ l) set s t =
-    all_fire l set s (fire (gl_row set (chosen c)) s t) ∙ sym (fire_append (gl_row set (chosen c)) (gather (gl_row set) (map chosen l)) s t)
+rows_fire : (l : List Chosen) (set s t : ℕ) → fold (λ t c. fire (gl_row set (chosen c)) s t) t l ≡ fire (gl_reduct (map chosen l) set) s t
+unfolding gl_reduct gather fire
+rows_fire [] set s t = refl
+rows_fire (c ∷ l) set s t =
+    rows_fire l set s (fire (gl_row set (chosen c)) s t) ∙ sym (fire_append (gl_row set (chosen c)) (gather (gl_row set) (map chosen l)) s t)
+
+pub all_fire : (l : List Chosen) (set s t : ℕ) → fold (λ t c. fire (gl_row set (chosen c)) s t) t (reverse l) ≡ fire (gl_reduct (all_chosen l) set) s t
+unfolding all_chosen
+all_fire l set s t = rows_fire (reverse l) set s t
 
 -- ---- the flags
 -- firing rules without body adds their atoms
@@ -58,6 +63,13 @@ unfolding program_of
 round_flags l flags set s t h = sym (fire_joined (all_chosen l) (flag_options flags) set s t ∙ flags_fire flags set s _ h)
 
 -- ---- the rows without head
+pub every_turned : {A B : Type 0} (p : B → Bool) (f : A → B) (l : List A) → every p (map f l) ≡ every p (map f (reverse l))
+unfolding every
+every_turned p f [] = refl
+every_turned p f (x ∷ l) =
+    and_comm (p (f x)) (every p (map f l)) ∙ ap (λ b. b && p (f x)) (every_turned p f l)
+    ∙ sym (rw (reverse-cons, map-append, every_append p (map f (reverse l)) (f x ∷ []), and-true))
+
 bars_flags : (l : List ℕ) (s : ℕ) → every (bar_holds s) (map (λ a. gives a [] []) l) ≡ true
 unfolding every bar_holds
 bars_flags [] s = refl

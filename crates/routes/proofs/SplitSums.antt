@@ -1,5 +1,5 @@
--- Sums over a list and over the numbers below n: equal terms give equal sums, a part is at most the whole; and a sum over the options of a row is one
--- over their numbers. By induction. Assumes nothing.
+-- Sums over a list and over the numbers below n: equal terms give equal sums, two sums can be exchanged, a part is at most the whole; and a sum over the
+-- options of a row is one over their numbers. By induction. Assumes nothing.
 use mathlib.Core.Path.{◌≡◌, refl, sym, ◌∙◌}
 use mathlib.Core.List.{List, [], ◌∷◌, ◌++◌, append_assoc, append-nil}
 use Prim.Native.Nat.{ℕ, zero, suc, ◌+◌, ◌≤◌}
@@ -26,6 +26,21 @@ module _ {A : Type 0} where
   unfolding sum_over
   sum_same [] f g e = refl
   sum_same (x ∷ l) f g e = rw (e x, sum_same l f g e)
+
+sum_none : {A : Type 0} (l : List A) → sum_over l (λ x. 0) ≡ 0
+unfolding sum_over
+sum_none [] = refl
+sum_none (x ∷ l) = omega (arith, sum_none l)
+
+sum_both : {A : Type 0} (l : List A) (f g : A → ℕ) → sum_over l (λ x. f x + g x) ≡ sum_over l f + sum_over l g
+unfolding sum_over
+sum_both [] f g = refl
+sum_both (x ∷ l) f g = omega (arith, sum_both l f g)
+
+pub sum_swap : {A B : Type 0} (l : List A) (m : List B) (f : A → B → ℕ) → sum_over l (λ x. sum_over m (f x)) ≡ sum_over m (λ y. sum_over l (λ x. f x y))
+unfolding sum_over
+sum_swap [] m f = sym (sum_none m)
+sum_swap (x ∷ l) m f = rw (sum_swap l m f) (sym (sum_both m (f x) (λ y. sum_over l (λ x. f x y))))
 
 pub below_same : (n : ℕ) (f g : ℕ → ℕ) → ((k : ℕ) → f k ≡ g k) → sum_below n f ≡ sum_below n g
 unfolding sum_below

@@ -1,6 +1,6 @@
 -- What the split test has chosen: rows, each with one of its options. The test's result is not stated by these: they stand between the code and the
 -- definition of split programs.
-use Rattle.std.specs.Prelude.{List, [], ◌∷◌, ◌++◌, map, ℕ, length, get_or, take}
+use Rattle.std.specs.Prelude.{List, [], ◌∷◌, ◌++◌, map, reverse, ℕ, length, get_or, take}
 use Rattle.atoms.specs.Atoms.{has}
 use Rattle.lpod.specs.Lists.{keep, below}
 use Rattle.lpod.specs.Rule.{Rule, most_atoms}
@@ -16,12 +16,12 @@ option_in r k (c ∷ cs) = gives (get_or (c ∷ cs) k 0) r.pos (r.neg ++ take k 
 unfoldable pub option_at : Rule → ℕ → Option
 option_at r k = option_in r k r.head
 
--- the option that is taken of one row; of each row
+-- the option that is taken of one row; of each row. They are chosen from the last row on
 unfoldable pub chosen : Chosen → Option
 chosen c = option_at (rule_in c.row) c.option
 
 unfoldable pub all_chosen : List Chosen → List Option
-all_chosen l = map chosen l
+all_chosen l = map chosen (reverse l)
 
 -- the one option of each row that a flag adds
 unfoldable pub flag_options : ℕ → List Option
@@ -31,6 +31,6 @@ flag_options flags = map (λ a. gives a [] []) (keep (has flags) (below most_ato
 unfoldable pub program_of : List Chosen → ℕ → List Option
 program_of l flags = all_chosen l ++ flag_options flags
 
--- how many choices for the rows P, behind the options O of the rows before them, have s as answer set
+-- how many choices for the rows P, with the options O of the rows after them, have s as answer set
 unfoldable pub count_from : List Rule → ℕ → ℕ → List Option → ℕ
-count_from P flags s O = length (keep (λ C. split_answer (O ++ (C ++ flag_options flags)) s) (choices P))
+count_from P flags s O = length (keep (λ C. split_answer (C ++ (O ++ flag_options flags)) s) (choices P))

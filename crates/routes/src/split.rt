@@ -68,11 +68,16 @@ impl Chosen {
     }
 }
 
+// A choice has the last row first, as the rows are chosen from the last one on.
+//
 // One round from s of the split program that is chosen: all its rules whose body holds in s fire together. A flag's rule has no body.
 fn round(choice: &[Chosen], flags: u16, set: u16, s: u16) -> u16
     ensures { result ≡ fire (gl_reduct (choices.program_of choice.now flags) set) s s }
 {
-    let rows = choice.iter().fold(s, |t, chosen| chosen.fire(set, s, t));
+    let rows = choice
+        .iter()
+        .rev()
+        .fold(s, |t, chosen| chosen.fire(set, s, t));
     atoms::union(rows, flags)
 }
 
@@ -106,14 +111,14 @@ fn chosen_answer(choice: &[Chosen], flags: u16, set: u16) -> bool
     bars_hold(choice, set) && least_closed(choice, flags, set) == set
 }
 
-// How many choices of options for the rows, behind what is chosen, have the set as answer set. It goes through the options of the first row, and
-// for each through those of the rows after it. At most 4,096 choices are tested.
+// How many choices of options for the rows, with what is chosen for those after them, have the set as answer set. It goes through the options of
+// the last row, and for each through those of the rows before it. At most 4,096 choices are tested.
 fn count_from(rows: &[u64], flags: u16, set: u16, choice: &mut ArrayVec<Chosen, 32>) -> u16
     requires { (length choice.old.items + length rows.now ≤ 32) × (split_number (rules_in rows.now) ≤ 4096) }
     ensures count { result ≡ choices.count_from (rules_in rows.now) flags set (choices.all_chosen choice.old.items) }
     ensures kept { choice.new.items ≡ choice.old.items }
 {
-    let Some((&row, rest)) = rows.split_first() else {
+    let Some((&row, rest)) = rows.split_last() else {
         return u16::from(chosen_answer(choice, flags, set));
     };
     let mut total = 0;

@@ -1,4 +1,4 @@
--- `count_from` calls itself for the rows after the first. Without rows it tests the choice; else it adds up the counts with each option of the first
+-- `count_from` calls itself for the rows before the last. Without rows it tests the choice; else it adds up the counts with each option of the last
 -- row. The total is no more than the number of split programs, so that it fits. Assumes nothing.
 use Rattle.std.proofs.Common.{◌≡◌, length, refl, ap, ◌∙◌, arith}
 use Rattle.routes.specs.Choice.{all_chosen, program_of}

@@ -13,5 +13,5 @@ decreases-count_from l = length l.rows.now
 abbrev pub invariant-loop-option : goal.invariant-loop-option
 invariant-loop-option l = record {
   kept : l.choice.items ≡ l.fn.choice.items;
-  counted : l.total ≡ sum_below l.option (with_option l.flags l.set (rule_in l.row) (rules_in l.rest) (all_chosen l.fn.choice.items));
+  counted : l.total ≡ sum_below l.option (with_option l.flags l.set (rules_in l.rest) (rule_in l.row) (all_chosen l.fn.choice.items));
 }

@@ -1,5 +1,5 @@
 -- `round` lets one option fire after the other; the flags come in at the end. Assumes nothing.
-use Rattle.std.proofs.Common.{rules, ◌≡◌, ◌∙◌, ℕ}
+use Rattle.std.proofs.Common.{rules, ◌≡◌, ◌∙◌, ℕ, reverse}
 use Rattle.std.specs.List.{fold}
 use Rattle.lpod.specs.Least.{fire}
 use Rattle.lpod.specs.Split.{gl_row}
@@ -11,5 +11,5 @@ use Rattle.routes.proofs.split.round.Goals as goal
 pub returns : goal.returns
 returns c =
     let a = c.args in
-    let e : c.fold-rows.result ≡ fold (λ (t : ℕ) (k : Chosen). fire (gl_row a.set (chosen k)) a.s t) a.s a.choice.now = search rules in
+    let e : c.fold-rows.result ≡ fold (λ (t : ℕ) (k : Chosen). fire (gl_row a.set (chosen k)) a.s t) a.s (reverse a.choice.now) = search rules in
     c.union.ensures ∙ rw (e, all_fire a.choice.now a.set a.s a.s) (round_flags a.choice.now a.flags a.set a.s a.s c.ranges.flags.fits)
