@@ -4,7 +4,7 @@ use Rattle.std.specs.Prelude.{Some, None, IfSome}
 use mathlib.Core.Path.{◌≡◌, refl, sym, ap, ◌∙◌, subst}
 use mathlib.Core.Bool.{Bool, false}
 use mathlib.Core.List.{List, [], ◌∷◌}
-use Prim.Native.Nat.{ℕ, zero, suc, min, ◌/◌, ◌%◌, ◌≤◌, ◌<◌}
+use Prim.Native.Nat.{ℕ, zero, suc, min, ◌/◌, ◌%◌, ◌≤◌, ◌<◌, ◌+◌}
 use native.Mathlib.Decide.{dec_le}
 use native.Mathlib.Nat.{le_refl}
 use native.Mathlib.Omega.{arith}
@@ -22,7 +22,7 @@ use Rattle.words.specs.Coded.{program_in}
 use Rattle.lanes.specs.Entries.{over}
 use Rattle.lanes.specs.Rank.{ranks}
 use Rattle.lanes.specs.Seek.{number_of, next_from, all_from}
-use Rattle.lanes.specs.Marks.{marked, Within}
+use Rattle.lanes.specs.Marks.{marked, Within, Blank}
 use Rattle.lanes.specs.Sets.{left, FoundSays, wanted, kept, found, Marked}
 use Rattle.lanes.specs.declared.sets.Which.{Which}
 use Rattle.lanes.specs.declared.sets.Which.TheVariants.{All, Best}
@@ -102,11 +102,10 @@ pub no_marks : (n m s : ℕ) → marked (take n (replicate m 0)) s ≡ false
 unfolding marked
 no_marks n m s = ap (λ (w : ℕ). has w (s % 64)) (zero_at (take n (replicate m 0)) (every_take n (replicate m 0) (zeros m)) (s / 64)) ∙ has_zero (s % 64)
 
--- what is lent of most such words: n of them
-pub lent_words : (blocks n most : ℕ) → n ≡ blocks → blocks ≤ most
-    → (length {A = ℕ} (take n (replicate most 0)) ≡ blocks) × ((s : ℕ) → marked (take n (replicate most 0)) s ≡ false) × (length {A = ℕ} (take n (replicate most 0)) ≤ length {A = ℕ} (replicate most 0))
-lent_words blocks n most e h =
+-- what is lent of most such words: one for each block up to top's
+pub lent_words : (top n most : ℕ) → n ≡ top / 64 + 1 → top / 64 < most → (length {A = ℕ} (take n (replicate most 0)) ≤ length {A = ℕ} (replicate most 0)) × Blank (take n (replicate most 0)) top
+lent_words top n most e h =
     let z : List ℕ = replicate most 0 in
     let l : n ≤ length z = omega (arith, length-replicate {A = ℕ} most 0) in
     let k = length-take-le n z l in
-    (k ∙ e, no_marks n most, omega (arith, k, l))
+    (omega (arith, k, l), (k ∙ e, no_marks n most))

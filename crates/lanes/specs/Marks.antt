@@ -1,11 +1,15 @@
 -- One bit for each set: bit j of word b is the set 64 b + j. A set past the last word has none.
-use Rattle.std.specs.Prelude.{◌≡◌, Bool, List, ℕ, ◌+◌, ◌*◌, ◌/◌, ◌%◌, ◌≤◌, ◌<◌, T, length, get_or}
+use Rattle.std.specs.Prelude.{◌≡◌, Bool, false, List, ℕ, ◌+◌, ◌*◌, ◌/◌, ◌%◌, ◌≤◌, ◌<◌, T, length, get_or}
 use Rattle.std.proofs.lemmas.List.Edits.{sets}
 use Rattle.atoms.specs.Atoms.{has, inside}
 use Rattle.lpod.specs.Lists.{keep, numbers}
 
 unfoldable pub marked : List ℕ → ℕ → Bool
 marked marks s = has (get_or marks (s / 64) 0) (s % 64)
+
+-- a word for each block up to top's, and no mark
+abbrev pub Blank : List ℕ → ℕ → Type 0
+Blank marks top = (length marks ≡ top / 64 + 1) × ((s : ℕ) → marked marks s ≡ false)
 
 -- only blocks between low and high have marks
 abbrev pub Within : List ℕ → ℕ → ℕ → Type 0

@@ -9,7 +9,7 @@ ghost use Rattle.words.specs.Coded.{rules_in, pair_in, pairs_in, rules_with, pro
 ghost use Rattle.lanes.specs.Lanes as means;
 
 use super::rules::Rules;
-use super::word::Block;
+use super::word::{Block, First};
 use super::{close, word};
 
 // The lanes in which the two have the same set.
@@ -62,9 +62,9 @@ fn no_pair(pairs: &[u16], w: &[u64; 16], x: u64) -> u64
 
 // The lanes of x whose set satisfies every row and is the least set closed under its reduct. A lane is done where its set is reached. Where it is
 // not, nothing more can come once no row waits there, or a pass has added nothing there.
-fn supported(rules: Rules<'_>, flags: u16, block: &Block, x: u64) -> u64
-    requires { (j : ℕ) → j < 64 → T (has x j) → T (inside flags (64 * block.now.number + j)) }
-    ensures { (j : ℕ) → j < 64 → has result j ≡ (has x j && (satisfies_all (64 * block.now.number + j) (rules_in rules.entry.rows.now) && eqb (least (reduct (rules_with rules.entry.rows.now flags) (64 * block.now.number + j))) (64 * block.now.number + j))) }
+fn supported(rules: Rules<'_>, flags: u16, block: Block<'_>, x: u64) -> u64
+    requires { (j : ℕ) → j < 64 → T (has x j) → T (inside flags (64 * block.number + j)) }
+    ensures { (j : ℕ) → j < 64 → has result j ≡ (has x j && (satisfies_all (64 * block.entry.number + j) (rules_in rules.entry.rows.now) && eqb (least (reduct (rules_with rules.entry.rows.now flags) (64 * block.entry.number + j))) (64 * block.entry.number + j))) }
 {
     let mut ok = x;
     let mut cur = flag_words(flags);
@@ -74,24 +74,29 @@ fn supported(rules: Rules<'_>, flags: u16, block: &Block, x: u64) -> u64
         if ok == 0 {
             return 0;
         }
-        let there = same(&cur, &block.words);
+        let there = same(&cur, block.words);
         let open = ok & !there;
         if open & p.wait & p.grew == 0 {
             return ok & there;
         }
     }
-    ok & same(&cur, &block.words)
+    ok & same(&cur, block.words)
 }
 
 // The lanes of x whose set is an answer set.
-pub fn answers(rules: Rules<'_>, pairs: &[u16], flags: u16, b: u16, x: u64) -> u64
+pub fn answers(rules: Rules<'_>, first: &First, pairs: &[u16], flags: u16, b: u16, x: u64) -> u64
     requires { (b < 1024) × ((j : ℕ) → j < 64 → T (has x j) → T (inside flags (64 * b + j))) }
     ensures { (j : ℕ) → j < 64 → has result j ≡ (has x j && answer (program_in rules.entry.rows.now pairs.now flags) (64 * b + j)) }
 {
-    let block = Block::new(b);
-    let ok = no_pair(pairs, &block.words, x);
+    let mut words = first.words;
+    word::to_block(b, &mut words);
+    let block = Block {
+        number: b,
+        words: &words,
+    };
+    let ok = no_pair(pairs, block.words, x);
     if ok == 0 {
         return 0;
     }
-    supported(rules, flags, &block, ok)
+    supported(rules, flags, block, ok)
 }

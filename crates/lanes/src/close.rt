@@ -47,9 +47,9 @@ pub struct Passed {
 }
 
 // One row in the pass. Most bodies hold in no lane of a block.
-fn row_pass(row: u64, low: u64, block: &Block, cur: &mut [u64; 16]) -> Passed
+fn row_pass(row: u64, low: u64, block: Block<'_>, cur: &mut [u64; 16]) -> Passed
     requires { means.LowBody row low }
-    ensures { means.Says block.now.number result.ok (λ s. satisfies s (rule_in row)) × ((j : ℕ) → j < 64 → has result.wait j ≡ (body_holds (rule_in row) (64 * block.now.number + j) && not (all_in (rule_in row).pos (means.column cur.old j)))) × ((j : ℕ) → j < 64 → means.column cur.new j ≡ goes.pass_row (rule_in row) (64 * block.now.number + j) (means.column cur.old j)) × ((j : ℕ) → j < 64 → has result.grew j ≡ goes.row_adds (rule_in row) (64 * block.now.number + j) (means.column cur.old j)) }
+    ensures { means.Says block.entry.number result.ok (λ s. satisfies s (rule_in row)) × ((j : ℕ) → j < 64 → has result.wait j ≡ (body_holds (rule_in row) (64 * block.entry.number + j) && not (all_in (rule_in row).pos (means.column cur.old j)))) × ((j : ℕ) → j < 64 → means.column cur.new j ≡ goes.pass_row (rule_in row) (64 * block.entry.number + j) (means.column cur.old j)) × ((j : ℕ) → j < 64 → has result.grew j ≡ goes.row_adds (rule_in row) (64 * block.entry.number + j) (means.column cur.old j)) }
 {
     let x = block.body(row, low);
     if x == 0 {
@@ -60,7 +60,7 @@ fn row_pass(row: u64, low: u64, block: &Block, cur: &mut [u64; 16]) -> Passed
         };
     }
     let fire = word::all_in((row % 65536) as u16, cur, x);
-    let h = head_pass(row, x, fire, &block.words, cur);
+    let h = head_pass(row, x, fire, block.words, cur);
     Passed {
         ok: !h.none,
         wait: x & !fire,
@@ -69,8 +69,8 @@ fn row_pass(row: u64, low: u64, block: &Block, cur: &mut [u64; 16]) -> Passed
 }
 
 // All rows, one after the other.
-pub fn pass(rules: Rules<'_>, block: &Block, cur: &mut [u64; 16]) -> Passed
-    ensures { means.Says block.now.number result.ok (λ s. satisfies_all s (rules_in rules.entry.rows.now)) × ((j : ℕ) → j < 64 → has result.wait j ≡ goes.waits (rules_in rules.entry.rows.now) (64 * block.now.number + j) (means.column cur.old j)) × ((j : ℕ) → j < 64 → means.column cur.new j ≡ goes.pass (rules_in rules.entry.rows.now) (64 * block.now.number + j) (means.column cur.old j)) × ((j : ℕ) → j < 64 → has result.grew j ≡ goes.grows (rules_in rules.entry.rows.now) (64 * block.now.number + j) (means.column cur.old j)) }
+pub fn pass(rules: Rules<'_>, block: Block<'_>, cur: &mut [u64; 16]) -> Passed
+    ensures { means.Says block.entry.number result.ok (λ s. satisfies_all s (rules_in rules.entry.rows.now)) × ((j : ℕ) → j < 64 → has result.wait j ≡ goes.waits (rules_in rules.entry.rows.now) (64 * block.entry.number + j) (means.column cur.old j)) × ((j : ℕ) → j < 64 → means.column cur.new j ≡ goes.pass (rules_in rules.entry.rows.now) (64 * block.entry.number + j) (means.column cur.old j)) × ((j : ℕ) → j < 64 → has result.grew j ≡ goes.grows (rules_in rules.entry.rows.now) (64 * block.entry.number + j) (means.column cur.old j)) }
 {
     let mut ok = u64::MAX;
     let mut wait = 0;

@@ -49,7 +49,7 @@ pub fn first_rows(grades: &[u8], n: usize) -> u32
     x
 }
 
-// Rows that are kept, at most 32, and row by row the low parts of their bodies.
+// Rows that are kept, at most 32, and row by row the low parts of their bodies. One count serves both arrays.
 #[derive(Clone, Copy)]
 pub struct Kept {
     rows: [u64; 32],
@@ -105,9 +105,9 @@ impl Kept {
 }
 
 // The lanes in which the row has this degree, from 1 on.
-fn exact(word: u64, low: u64, block: &Block, k: u8) -> u64
+fn exact(word: u64, low: u64, block: Block<'_>, k: u8) -> u64
     requires { LowBody word low × (1 ≤ k) }
-    ensures { Says block.now.number result (λ s. eqb (degree s (rule_in word)) k) }
+    ensures { Says block.entry.number result (λ s. eqb (degree s (rule_in word)) k) }
 {
     let x = block.body(word, low);
     let n = row::head_count(word);
@@ -116,17 +116,17 @@ fn exact(word: u64, low: u64, block: &Block, k: u8) -> u64
         if n == 0 {
             return !x;
         }
-        return !x | word::at(&block.words, d % 16);
+        return !x | word::at(block.words, d % 16);
     }
     if n < k {
         return 0;
     }
     let mut t = x;
     for _p in 1..k {
-        t &= !word::at(&block.words, d % 16);
+        t &= !word::at(block.words, d % 16);
         d /= 16;
     }
-    t & word::at(&block.words, d % 16)
+    t & word::at(block.words, d % 16)
 }
 
 // At one degree: the lanes whose rows of this degree hold those of the set that is graded, and the lanes whose rows of it are among those.
@@ -137,12 +137,12 @@ struct Level {
 }
 
 // A row of this degree in the set that is graded counts for the first word only, any other for the second only.
-fn at_degree(rules: Rules, grades: &[u8], block: &Block, k: u8) -> Level
+fn at_degree(rules: Rules, grades: &[u8], block: Block<'_>, k: u8) -> Level
     requires { (length rules.rows.now ≤ length grades.now) × (1 ≤ k) }
-    ensures { (M : ℕ) → Grades rules.entry.rows.now grades.now M → Says block.now.number result.up (λ s. within (rules_in rules.entry.rows.now) k s M) × Says block.now.number result.down (λ s. within (rules_in rules.entry.rows.now) k M s) }
+    ensures { (M : ℕ) → Grades rules.entry.rows.now grades.now M → Says block.entry.number result.up (λ s. within (rules_in rules.entry.rows.now) k s M) × Says block.entry.number result.down (λ s. within (rules_in rules.entry.rows.now) k M s) }
 {
-    let mut up: u64 = 0xFFFF_FFFF_FFFF_FFFF;
-    let mut down: u64 = 0xFFFF_FFFF_FFFF_FFFF;
+    let mut up = u64::MAX;
+    let mut down = u64::MAX;
     for (n, &word) in rules.rows.iter().enumerate() {
         let e = exact(word, rules.lows[n], block, k);
         if grades[n] == k {
@@ -166,12 +166,16 @@ pub fn compare(rules: Rules, grades: &[u8], deepest: u8, b: u16, among: u64) -> 
     requires { (b < 1024) × (length rules.rows.now ≤ length grades.now) × (deepest ≡ longest (rules_in rules.rows.now)) }
     ensures { (M : ℕ) → Grades rules.entry.rows.now grades.now M → (j : ℕ) → j < 64 → (has result.won j ≡ (has among j && over rules.entry.rows.now (64 * b + j) M)) × (has result.lost j ≡ (has among j && over rules.entry.rows.now M (64 * b + j))) }
 {
-    let block = Block::new(b);
+    let words = word::block_words(b);
+    let block = Block {
+        number: b,
+        words: &words,
+    };
     let mut won: u64 = 0;
     let mut lost: u64 = 0;
     let mut same = among;
     for k in 1..=deepest {
-        let l = at_degree(rules, grades, &block, k);
+        let l = at_degree(rules, grades, block, k);
         let up = same & l.up;
         let down = same & l.down;
         won |= up & !down;
@@ -192,10 +196,14 @@ pub fn firsts(rules: Rules, b: u16, among: u64) -> u32
     if among == 0 {
         return 0;
     }
-    let block = Block::new(b);
+    let words = word::block_words(b);
+    let block = Block {
+        number: b,
+        words: &words,
+    };
     let mut x: u32 = 0;
     for (n, &word) in rules.rows.iter().enumerate() {
-        if exact(word, rules.lows[n], &block, 1) & among != 0 {
+        if exact(word, rules.lows[n], block, 1) & among != 0 {
             x |= 1 << n;
         }
     }

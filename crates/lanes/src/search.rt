@@ -15,21 +15,21 @@ use crate::marks::Marks;
 use crate::rank;
 use crate::ranking::Ranking;
 use crate::rules::Rules;
-use crate::span::Span;
 
-// The index of the marked sets: a word for each block of the span. Where there is one block only it spares nothing, and all ones will do.
-fn indexes(rules: Rules, span: Span, marks: &[u64], index: &mut [u32])
-    requires { (length rules.rows.now ≤ 32) × (length marks.now ≤ 1024) × (length marks.now ≤ length index.old) × Within marks.now span.low span.high }
-    ensures { Index rules.entry.rows.now index.new marks.now × (length index.new ≡ length index.old) }
+// The index of the marked sets: a word for each block that may have some. Where there is one block only it spares nothing, and all ones will do.
+fn indexes(rules: Rules, marks: Marks, index: &mut [u32])
+    requires { (length rules.rows.now ≤ 32) × (length marks.words.now ≤ length index.old) }
+    ensures { Index rules.entry.rows.now index.new marks.entry.words.now × (length index.new ≡ length index.old) }
 {
-    if marks.len() == 1 {
-        index[0] = 0xFFFF_FFFF;
+    let words = marks.words;
+    if words.len() == 1 {
+        index[0] = u32::MAX;
         return;
     }
-    let mut b = span.low;
-    while (b as usize) < marks.len() {
-        index[b as usize] = rank::firsts(rules, b, marks[b as usize]);
-        b = span.next(b);
+    let mut b = marks.span.low;
+    while (b as usize) < words.len() {
+        index[b as usize] = rank::firsts(rules, b, words[b as usize]);
+        b = marks.span.next(b);
     }
 }
 
@@ -62,15 +62,15 @@ fn unmark(marks: &mut [u64], s: u16)
 
 impl<'a> Ranking<'a> {
     // The rules rank the marked sets. The index is left in the lent slice.
-    pub fn new(rules: Rules<'a>, span: Span, marks: &[u64], index: &'a mut [u32]) -> Ranking<'a>
-        requires { (length rules.rows.now ≤ 32) × (length marks.now ≤ 1024) × (length marks.now ≤ length index.old) × (span.low < length marks.now) × Within marks.now span.low span.high }
-        ensures { Searched result marks.now × (result.rules ≡ rules.entry) × (result.span ≡ span) }
+    pub fn new(rules: Rules<'a>, marks: Marks, index: &'a mut [u32]) -> Ranking<'a>
+        requires { (length rules.rows.now ≤ 32) × (length marks.words.now ≤ length index.old) }
+        ensures { Searched result marks.entry.words.now × (result.rules ≡ rules.entry) × (result.span ≡ marks.entry.span) }
     {
-        indexes(rules, span, marks, &mut *index);
+        indexes(rules, marks, &mut *index);
         Ranking {
             rules,
             deepest: rank::deepest(rules.rows),
-            span,
+            span: marks.span,
             index,
         }
     }

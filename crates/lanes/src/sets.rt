@@ -1,13 +1,12 @@
 // The answer sets of rows and pairs in words and a flag word: all of them or the best, in lent memory, and the pick. Any words, flag word and slice
 // will do.
-ghost use Rattle.std.specs.Prelude.{◌≡◌, false, ℕ, ◌+◌, ◌/◌, ◌≤◌, ◌<◌, T, length};
+ghost use Rattle.std.specs.Prelude.{◌≡◌, ◌/◌, ◌≤◌, ◌<◌, length};
 ghost use Rattle.lpod.specs.Lists.{keep};
 ghost use Rattle.lpod.specs.Best as bests;
-ghost use Rattle.words.specs.Coded.{rules_in, program_in};
+ghost use Rattle.words.specs.Coded.{program_in};
 ghost use Rattle.lanes.specs.Lanes.{LowBodies};
 ghost use Rattle.lanes.specs.Seek.{number_of, next_from, all_from};
-ghost use Rattle.lanes.specs.Marks.{marked, Within};
-ghost use Rattle.lanes.specs.Tried.{top_of};
+ghost use Rattle.lanes.specs.Marks.{marked, Within, Blank};
 ghost use Rattle.lanes.specs.Rank.{over, ranks};
 ghost use Rattle.lanes.specs.Search.{sought_best};
 ghost use Rattle.lanes.specs.Sets as means;
@@ -18,6 +17,7 @@ use super::rank::Kept;
 use super::ranking::Ranking;
 use super::rules::Rules;
 use super::span::Span;
+use super::word::First;
 use super::{fill, word};
 
 // Which sets: all answer sets, or the best of them.
@@ -49,7 +49,11 @@ fn keep_wanted(rules: Rules, span: Span, which: Which, index: &mut [u32], marks:
     }
     let mut kept = Kept::none();
     kept.add_ranking(rules);
-    let ranking = Ranking::new(kept.rules(), span, &*marks, &mut *index);
+    let all = Marks {
+        words: &*marks,
+        span,
+    };
+    let ranking = Ranking::new(kept.rules(), all, &mut *index);
     ranking.keep_best(&mut *marks);
 }
 
@@ -60,26 +64,31 @@ fn first_best(rules: Rules, span: Span, index: &mut [u32], marks: &mut [u64]) ->
 {
     let mut kept = Kept::none();
     kept.add_ranking(rules);
-    let ranking = Ranking::new(kept.rules(), span, &*marks, &mut *index);
+    let all = Marks {
+        words: &*marks,
+        span,
+    };
+    let ranking = Ranking::new(kept.rules(), all, &mut *index);
     ranking.first_best(&mut *marks)
 }
 
 // Marks the answer sets in words that have no mark. The low parts of the bodies are left in a lent slice.
 fn mark(p: Program, lows: &mut [u64], marks: &mut [u64])
-    requires { (length p.rows.now ≤ length lows.old) × (length marks.old ≡ p.top / 64 + 1) × ((s : ℕ) → marked marks.old s ≡ false) }
+    requires { (length p.rows.now ≤ length lows.old) × Blank marks.old p.top }
     ensures { means.Marked p.entry.rows.now p.entry.pairs.now p.entry.flags p.entry.top marks.new × LowBodies p.entry.rows.now lows.new × (length lows.new ≡ length lows.old) }
 {
-    word::low_bodies(p.rows, &mut *lows);
+    let first = First::new();
+    word::low_bodies(p.rows, &first, &mut *lows);
     let rules = Rules {
         rows: p.rows,
         lows: &*lows,
     };
-    fill::answers(rules, p.pairs, p.flags, p.top, &mut *marks);
+    fill::answers(rules, &first, p.pairs, p.flags, p.top, &mut *marks);
 }
 
 // Marks the answer sets in words that have no mark, keeps the best where only these are wanted, and lists what is marked.
 fn sets_with(p: Program, which: Which, index: &mut [u32], marks: &mut [u64], out: &mut [u16]) -> u32
-    requires { (length marks.old ≡ p.top / 64 + 1) × ((s : ℕ) → marked marks.old s ≡ false) × (length marks.old ≤ length index.old) }
+    requires { (length marks.old ≤ length index.old) × Blank marks.old p.top }
     ensures { means.FoundSays (means.wanted which (program_in p.entry.rows.now p.entry.pairs.now p.entry.flags)) out.old result out.new }
 {
     let mut lows = [0u64; 32];
@@ -99,7 +108,7 @@ fn sets_with(p: Program, which: Which, index: &mut [u32], marks: &mut [u64], out
 
 // Marks the answer sets in words that have no mark, and answers the least best one.
 fn pick_with(p: Program, index: &mut [u32], marks: &mut [u64]) -> Option<u16>
-    requires { (length marks.old ≡ p.top / 64 + 1) × ((s : ℕ) → marked marks.old s ≡ false) × (length marks.old ≤ length index.old) }
+    requires { (length marks.old ≤ length index.old) × Blank marks.old p.top }
     ensures { means.found result ≡ bests.pick (program_in p.entry.rows.now p.entry.pairs.now p.entry.flags) }
 {
     let mut lows = [0u64; 32];

@@ -30,36 +30,58 @@ const LANES: [u64; 16] = [
 
 // The words of these atoms get all lanes.
 pub fn raise(raised: u16, w: &mut [u64; 16])
-    ensures { (a j : ℕ) → a < 16 → j < 64 → has (get_or w.new a 0) j ≡ (has raised a || has (get_or w.old a 0) j) }
+    ensures { (length w.new ≡ length w.old) × ((a j : ℕ) → a < 16 → j < 64 → has (get_or w.new a 0) j ≡ (has raised a || has (get_or w.old a 0) j)) }
 {
     for a in (Members { left: raised }) {
         w[a as usize] = u64::MAX;
     }
 }
 
-// A block: its number, and the words of its atoms.
+// The words of block 0, from which those of each other block are made.
 #[derive(Clone, Copy)]
-pub struct Block {
-    pub number: u16,
+pub struct First {
     pub words: [u64; 16],
-    pub ghost small: { number < 1024 },
-    pub ghost made: { means.Block number words },
+    pub ghost made: { means.Block 0 words },
 }
 
-impl Block {
-    pub fn new(number: u16) -> Block
-        requires { number < 1024 }
-        ensures { result.number ≡ number }
-    {
-        let mut words = LANES;
-        raise(64 * number, &mut words);
-        Block { number, words }
+impl First {
+    pub fn new() -> First {
+        First { words: LANES }
     }
+}
 
+// From the words of block 0 to those of block b, in place: what hands them out copies them, and a list took a tenth to a half longer.
+pub fn to_block(b: u16, w: &mut [u64; 16])
+    requires { (b < 1024) × means.Block 0 w.old }
+    ensures { means.Block b w.new }
+{
+    raise(64 * b, w);
+}
+
+// The words of block b.
+pub fn block_words(b: u16) -> [u64; 16]
+    requires { b < 1024 }
+    ensures { means.Block b result }
+{
+    let mut w = LANES;
+    to_block(b, &mut w);
+    w
+}
+
+// A block: its number, and the words of its atoms. They are lent, since a block with its words in it is copied on the way.
+#[derive(Clone, Copy)]
+pub struct Block<'a> {
+    pub number: u16,
+    pub words: &'a [u64; 16],
+    pub ghost small: { number < 1024 },
+    pub ghost made: { means.Block number words.now },
+}
+
+impl<'a> Block<'a> {
     // The lanes in which the row's body holds, from those in which its low part does. The other part is the same in the whole block.
-    pub fn body(&self, row: u64, low: u64) -> u64
+    pub fn body(self, row: u64, low: u64) -> u64
         requires { means.LowBody row low }
-        ensures { means.Says self.now.number result (body_holds (rule_in row)) }
+        ensures { means.Says self.entry.number result (body_holds (rule_in row)) }
     {
         if !atoms::part_of((row % 65536 / 64) as u16, self.number) {
             return 0;
@@ -105,13 +127,12 @@ pub fn none_in(none: u16, w: &[u64; 16], x: u64) -> u64
 }
 
 // The lanes in which the low part of each row's body holds, at the start of the lent slice.
-pub fn low_bodies(rows: &[u64], lows: &mut [u64])
+pub fn low_bodies(rows: &[u64], first: &First, lows: &mut [u64])
     requires { length rows.now ≤ length lows.old }
     ensures { means.LowBodies rows.now lows.new × (length lows.new ≡ length lows.old) }
 {
-    let zero = Block::new(0);
     for (n, &row) in rows.iter().enumerate() {
-        let x = all_in((row % 64) as u16, &zero.words, u64::MAX);
-        lows[n] = none_in((row / 65536 % 64) as u16, &zero.words, x);
+        let x = all_in((row % 64) as u16, &first.words, u64::MAX);
+        lows[n] = none_in((row / 65536 % 64) as u16, &first.words, x);
     }
 }

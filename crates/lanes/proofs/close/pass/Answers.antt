@@ -27,10 +27,10 @@ loop-n-preserved c =
     let k = h.invariant in
     let e = rest_step rule_in c.args.rules.rows.now h.n (omega arith) _ refl in
     record {
-      ok = λ j l. k.ok j l ∙ ok_turn e (64 * c.args.block.now.number + j) j h.ok _ (r.ensures.0 j l);
-      waits = λ j l. k.waits j l ∙ wait_turn e (64 * c.args.block.now.number + j) j (column h.cur j) _ (r.ensures.2 j l) h.wait _ (r.ensures.1 j l);
-      reached = λ j l. k.reached j l ∙ pass_turn e (64 * c.args.block.now.number + j) j (column h.cur j) _ (r.ensures.2 j l);
-      grows = λ j l. k.grows j l ∙ grow_turn e (64 * c.args.block.now.number + j) j (column h.cur j) _ (r.ensures.2 j l) h.grew _ (r.ensures.3 j l);
+      ok = λ j l. k.ok j l ∙ ok_turn e (64 * c.args.block.number + j) j h.ok _ (r.ensures.0 j l);
+      waits = λ j l. k.waits j l ∙ wait_turn e (64 * c.args.block.number + j) j (column h.cur j) _ (r.ensures.2 j l) h.wait _ (r.ensures.1 j l);
+      reached = λ j l. k.reached j l ∙ pass_turn e (64 * c.args.block.number + j) j (column h.cur j) _ (r.ensures.2 j l);
+      grows = λ j l. k.grows j l ∙ grow_turn e (64 * c.args.block.number + j) j (column h.cur j) _ (r.ensures.2 j l) h.grew _ (r.ensures.3 j l);
     }
 
 pub returns : goal.returns

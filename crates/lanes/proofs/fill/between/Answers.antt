@@ -5,4 +5,4 @@ use Rattle.lanes.proofs.fill.between.Goals as goal
 pub returns : goal.returns
 returns c =
     let x = c.all_in-x in
-    between_made c.args.flags c.args.top _ (rw c.new-zero.ensures at c.new-zero.result.made) x.result c.none_in.result x.ensures c.none_in.ensures
+    between_made c.args.flags c.args.top _ c.args.first.now.made x.result c.none_in.result x.ensures c.none_in.ensures

@@ -19,7 +19,7 @@ returns-then-same-eq0 c =
     let r = a.rules.rows.now in
     let g = a.grades.now in
     compare_stop r g a.b a.among (h.k + 1 - 1) _ _ _ (omega (arith, c.loop-k-test.true, c.requires.2)) c.if-same-eq0.true
-    (compare_turn r g a.b a.among h.k h.same h.won h.lost x.result.up x.result.down (omega arith) (omega (arith, x.type_inv)) (omega (arith, x.type_inv)) (rw c.new-block.ensures at x.ensures) h.invariant)
+    (compare_turn r g a.b a.among h.k h.same h.won h.lost x.result.up x.result.down (omega arith) (omega (arith, x.type_inv)) (omega (arith, x.type_inv)) x.ensures h.invariant)
 
 pub loop-k-preserved : goal.loop-k-preserved
 loop-k-preserved c =
@@ -27,7 +27,7 @@ loop-k-preserved c =
     let h = c.loop-k in
     let a = c.args in
     compare_turn a.rules.rows.now a.grades.now a.b a.among h.k h.same h.won h.lost x.result.up x.result.down (omega arith) (omega (arith, x.type_inv)) (omega (arith, x.type_inv))
-    (rw c.new-block.ensures at x.ensures) h.invariant
+    x.ensures h.invariant
 
 -- the last degree is done
 pub returns-else-same-eq0 : goal.returns-else-same-eq0
@@ -38,7 +38,7 @@ returns-else-same-eq0 c =
     let r = a.rules.rows.now in
     let g = a.grades.now in
     compare_end r g a.b a.among (h.k + 1 - 1) _ _ _ (omega (arith, c.requires.2))
-    (compare_turn r g a.b a.among h.k h.same h.won h.lost x.result.up x.result.down (omega arith) (omega (arith, x.type_inv)) (omega (arith, x.type_inv)) (rw c.new-block.ensures at x.ensures) h.invariant)
+    (compare_turn r g a.b a.among h.k h.same h.won h.lost x.result.up x.result.down (omega arith) (omega (arith, x.type_inv)) (omega (arith, x.type_inv)) x.ensures h.invariant)
 
 -- there is a degree
 pub returns : goal.returns

@@ -21,5 +21,5 @@ loop-n-preserved c =
     let r = a.rules.rows.now in
     elim c.if-exact-among-ne0.branch [
       | then-exact-among-ne0 w ↦ rw w.x-is (firsts_on r a.b a.among h.n h.x h.invariant (omega (arith, c.requires.1)))
-      | else-exact-among-ne0 w ↦ rw w.x-is (firsts_off r a.b a.among h.n h.x h.invariant x.result (rw c.new-block.ensures at x.ensures) w.if-exact-among-ne0.false)
+      | else-exact-among-ne0 w ↦ rw w.x-is (firsts_off r a.b a.among h.n h.x h.invariant x.result x.ensures w.if-exact-among-ne0.false)
     ]

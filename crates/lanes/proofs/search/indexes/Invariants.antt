@@ -10,7 +10,7 @@ use Rattle.lanes.proofs.search.indexes.Given as goal
 
 abbrev pub invariant-loop-b : goal.invariant-loop-b
 invariant-loop-b l =
-    (l.b < 65536) × (l.b < length l.marks → T (inside l.span.low l.b) × T (inside l.b l.span.high)) × (length l.index ≡ length l.initial.index) × IndexTo l.rules.rows.now l.index l.marks l.b
+    (l.b < 65536) × (l.b < length l.marks.words.now → T (inside l.marks.span.low l.b) × T (inside l.b l.marks.span.high)) × (length l.index ≡ length l.initial.index) × IndexTo l.rules.rows.now l.index l.marks.words.now l.b
 
 abbrev pub decreases-loop-b : goal.decreases-loop-b
 decreases-loop-b l = 65536 - l.b

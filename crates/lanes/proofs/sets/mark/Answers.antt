@@ -10,7 +10,7 @@ pub answers-requires : goal.answers-requires
 answers-requires c =
     let p = c.args.p in
     let w : p.flags < 65536 = omega arith in
-    (flags_top p.rows.now p.pairs.now p.flags w p.top p.highest, c.requires.1, c.requires.2)
+    (flags_top p.rows.now p.pairs.now p.flags w p.top p.highest, c.requires.1.0, c.requires.1.1)
 
 pub returns : goal.returns
 returns c =
@@ -20,7 +20,7 @@ returns c =
     let m = p.rows.now in
     let q = p.pairs.now in (
       record {
-        long = e.0 ∙ c.requires.1;
+        long = e.0 ∙ c.requires.1.0;
         small = omega arith;
         start = inside_high p.flags p.top (flags_top m q p.flags w p.top p.highest);
         between = within_all m q p.flags w p.top p.highest _ e.1;

@@ -12,7 +12,7 @@ first_best-requires c =
     let l = may_search m _ refl m.between in
     let k = m.long in
     let s = c.span.ensures in
-    rw (s.0, s.1) (c.args.p.few, l.0, omega (arith, k, c.requires.0, c.requires.2), l.1, l.2)
+    rw (s.0, s.1) (c.args.p.few, l.0, omega (arith, k, c.requires.0, c.requires.1.0), l.1, l.2)
 
 pub returns : goal.returns
 unfolding pick

@@ -1,8 +1,6 @@
 -- `sets::sets_in` lends as many words as there are blocks up to top. Assumes nothing.
-use Prim.Native.Nat.{◌+◌, ◌/◌}
-use native.Mathlib.Omega.{arith}
 use Rattle.lanes.proofs.Listed.{lent_words}
 use Rattle.lanes.proofs.sets.sets_in.Goals as goal
 
 pub sets_with-requires : goal.sets_with-requires
-sets_with-requires g c = lent_words (c.args.p.top / 64 + 1) c.words.result g.row.N c.words.ensures (omega (arith, c.requires.enough))
+sets_with-requires g c = lent_words c.args.p.top c.words.result g.row.N c.words.ensures c.requires.enough

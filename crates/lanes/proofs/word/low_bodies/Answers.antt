@@ -12,5 +12,5 @@ loop-n-preserved c =
     let y = c.none_in in
     record {
       long = length-set h.lows h.n y.result ∙ h.invariant.long;
-      made = low_more c.args.rows.now h.lows h.n y.result (omega arith) h.invariant.made (low_made _ _ (rw c.new-zero.ensures at c.new-zero.result.made) x.result y.result x.ensures y.ensures);
+      made = low_more c.args.rows.now h.lows h.n y.result (omega arith) h.invariant.made (low_made _ _ c.args.first.now.made x.result y.result x.ensures y.ensures);
     }

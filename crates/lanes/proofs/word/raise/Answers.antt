@@ -20,4 +20,5 @@ loop-a-preserved c =
     }
 
 pub returns : goal.returns
-returns c = λ a j l m. raise_end c.args.raised a l _ c.in-None.ensures.steps.0 _ _ (c.loop-a.invariant.raised a j m)
+returns c =
+    (omega (arith, c.loop-a.invariant.long), λ a j l m. raise_end c.args.raised a l _ c.in-None.ensures.steps.0 _ _ (c.loop-a.invariant.raised a j m))

@@ -8,15 +8,15 @@ pub returns-then-not-part_of : goal.returns-then-not-part_of
 unfolding pos_set
 returns-then-not-part_of c =
     let a = c.args in
-    λ j l. body_no_pos a.row a.self.now.number j l (sym c.part_of.ensures ∙ c.if-not-part_of.true)
+    λ j l. body_no_pos a.row a.self.number j l (sym c.part_of.ensures ∙ c.if-not-part_of.true)
 
 pub returns-then-common-ne0 : goal.returns-then-common-ne0
 unfolding neg_set
 returns-then-common-ne0 c =
     let a = c.args in
-    λ j l. body_no_neg a.row a.self.now.number j l (λ e. c.if-common-ne0.true (c.common.ensures ∙ e))
+    λ j l. body_no_neg a.row a.self.number j l (λ e. c.if-common-ne0.true (c.common.ensures ∙ e))
 
 pub returns : goal.returns
 unfolding pos_set neg_set
 returns c =
-    λ j l. body_low c.args.row c.args.self.now.number j l (sym c.part_of.ensures ∙ c.if-not-part_of.false) (sym c.common.ensures ∙ c.if-common-ne0.false) _ c.requires
+    λ j l. body_low c.args.row c.args.self.number j l (sym c.part_of.ensures ∙ c.if-not-part_of.false) (sym c.common.ensures ∙ c.if-common-ne0.false) _ c.requires
