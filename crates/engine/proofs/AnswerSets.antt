@@ -1,6 +1,6 @@
 -- On an accepted page the words have the answer sets of the page and no others: an answer set holds only raised atoms and head atoms, which are
 -- atoms of the page. So the lists and the pick of the words are those of the page. Assumes nothing.
-use mathlib.Core.Path.{◌≡◌, refl, ap, ◌∙◌}
+use mathlib.Core.Path.{◌≡◌, refl, sym, ap, ◌∙◌}
 use mathlib.Core.Bool.{Bool}
 use mathlib.Core.Logic.{⊎_elim}
 use mathlib.Core.List.Memᴰ
@@ -28,7 +28,8 @@ use Rattle.page.proofs.AcceptedAtoms.{AtomsBelow, rows_below, flag_page, flags_b
 use Rattle.words.proofs.Sets.{set_below}
 use Rattle.words.specs.Coded.{program_in, row_words, pair_words}
 use Rattle.words.proofs.Lent.{lent_preferred, lent_answer}
-use Rattle.lanes.specs.Sets.{program_of, wanted}
+use Rattle.lanes.specs.Sets.{program_of, wanted, FoundSays}
+use Rattle.lanes.proofs.Listed.{found_same}
 use Rattle.lanes.proofs.Kept.{keep_short}
 use Rattle.lanes.specs.declared.sets.Which.{Which}
 use Rattle.lanes.specs.declared.sets.Which.TheVariants.{All, Best}
@@ -77,8 +78,8 @@ no_pairs : (rows pairs : List ℕ) (flags : ℕ) → preferred (program_in rows 
 unfolding preferred rules program_in
 no_pairs rows pairs flags = refl
 
--- ---- in the words of the code: those of an accepted page, lent to the lists
-module _ (page : List ℕ) (flags : ℕ) (w : flags < 2 ^ 16) (h : flag_no page flags ≡ 0)
+-- ---- in the words of the code, which are those of an accepted page: what is found for them is found for the page
+module _ (page : List ℕ) (flags : ℕ) (w : flags < 2 ^ 16) (z : 0 ≡ flag_no page flags)
     (rows : List ℕ) (er : rows ≡ row_words page) (few : length rows ≤ 32) (pairs : List ℕ) (ep : pairs ≡ pair_words page) where
   whole : program_of rows pairs flags ≡ program_in rows pairs flags
   unfolding program_of
@@ -87,10 +88,14 @@ module _ (page : List ℕ) (flags : ℕ) (w : flags < 2 ^ 16) (h : flag_no page 
   pub made_sets : (which : Which) → wanted which (program_of rows pairs flags) ≡ wanted which (program page flags)
   unfolding program_in
   made_sets which =
-      let g = flag_page page flags h in
+      let g = flag_page page flags (sym z) in
       ap (wanted which) whole
-      ∙ same_wanted page flags w h (program_in rows pairs flags) refl (lent_answer page g rows er pairs ep flags)
+      ∙ same_wanted page flags w (sym z) (program_in rows pairs flags) refl (lent_answer page g rows er pairs ep flags)
       (no_pairs rows pairs flags ∙ lent_preferred page g rows er flags) which
+
+  pub sets_found : (which : Which) (out : List ℕ) (r : ℕ) (after : List ℕ) → FoundSays (wanted which (program_of rows pairs flags)) out r after
+      → FoundSays (wanted which (program page flags)) out r after
+  sets_found which out r after s = found_same out (made_sets which) s
 
   pub made_pick : pick (program_of rows pairs flags) ≡ pick (program page flags)
   unfolding pick wanted

@@ -5,14 +5,17 @@ use Rattle.std.specs.Option.{IfSome, MatchOption}
 use mathlib.Core.Path.{◌≡◌, refl, sym, ap, ◌∙◌}
 use mathlib.Core.Bool.{Bool, true, false, ◌&&◌, ◌||◌, not, cond, or-false, or_assoc}
 use mathlib.Core.Logic.{◌⊎◌, inl, inr, ⊎_elim}
-use mathlib.Core.List.{List, [], ◌∷◌}
-use Prim.Native.Nat.{ℕ, ◌≤◌, ◌<◌}
+use mathlib.Core.List.{List, [], ◌∷◌, map}
+use Prim.Native.Nat.{ℕ, ◌+◌, ◌≤◌, ◌<◌}
 use native.Mathlib.Omega.{arith}
 use lib.Dec.{T, eqb, ltb, eqb→eq}
+use lib.ListN.{length, get_or, drop}
 use borrow.Author.Tests.{ltb-true, ltb-false, eqb-true, eqb-false, ne_eqb, eq-eqb}
 use Rattle.lpod.specs.Lists.{some}
 use Rattle.lpod.specs.Rule.{Rule}
 use Rattle.lpod.specs.Degree.{degree}
+use Rattle.words.specs.Coded.{rule_in}
+use Rattle.words.proofs.Rest.{rest_step, rest_none}
 use Rattle.engine.specs.Rank.{added, noted, seen, rows_seen}
 use Rattle.engine.specs.declared.rank.Difference.{Difference}
 
@@ -211,8 +214,13 @@ rows_keep (r ∷ P) M N up down f k =
     kept_told _ _ _ _ (rows_seen f (r ∷ P) M N) (λ j. or_assoc (up j) _ _) (λ j. or_assoc (down j) _ _)
     (rows_keep P M N _ _ (seen f (degree M r) (degree N r)) (seen_keeps up down f k (degree M r) (degree N r)))
 
--- as code goes through them: one row, and the rest
-pub rows_go : {P rest : List Rule} {r : Rule} (M N : ℕ) (f f' : Option Difference) → P ≡ r ∷ rest → f' ≡ seen f (degree M r) (degree N r)
-    → rows_seen f P M N ≡ rows_seen f' rest M N
-unfolding rows_seen
-rows_go M N f f' e ef = rw (e, ef)
+-- as code goes through them, in words: one row, and the rest; and no row
+module _ (words : List ℕ) (n M N : ℕ) (f : Option Difference) where
+  pub rows_next : n < length words → rows_seen f (map rule_in (drop n words)) M N
+      ≡ rows_seen (seen f (degree M (rule_in (get_or words n 0))) (degree N (rule_in (get_or words n 0)))) (map rule_in (drop (n + 1) words)) M N
+  unfolding rows_seen
+  rows_next h = rw (rest_step rule_in words n h _ refl)
+
+  pub rows_past : length words ≤ n → rows_seen f (map rule_in (drop n words)) M N ≡ f
+  unfolding rows_seen
+  rows_past h = rw (rest_none rule_in words n h)

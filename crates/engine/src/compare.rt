@@ -27,6 +27,7 @@ fn both_answer(rows: &[u64], pairs: &[u16], flags: u16, first: u16, second: u16)
 }
 
 // The comparison of any two sets.
+#[tactic(auto, unfolding(lpod::specs::Preferred::compare))]
 fn side_of(rows: &[u64], flags: u16, first: u16, second: u16) -> Side
     ensures { means.side_number result ≡ ranks.compare (program_in rows.now [] flags) first second }
 {

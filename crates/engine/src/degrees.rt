@@ -12,7 +12,7 @@ use routes::reduct;
 use words::{read, row};
 
 // Stores the degree of each row, in row order.
-#[tactic(auto, unfolding(words::specs::Coded::rules_in))]
+#[tactic(auto, using(crate::proofs::Stored::degrees_over, crate::proofs::Stored::degrees_past), unfolding(words::specs::Coded::rules_in))]
 fn store(rows: &[u64], set: u16, out: &mut [u8])
     requires { length rows.now ≤ length out.old }
     ensures { out.new ≡ over (map (degree set) (rules_in rows.now)) out.old }

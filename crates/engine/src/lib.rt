@@ -1,5 +1,5 @@
 // What is asked of a page and a flag word: the list of its answer sets, the degrees of one, which of two is preferred, the best sets, the pick.
-// Every call takes every page, flag word, set and lent slice; a bad one gets the number of the first refusal, and lent memory stays as it was.
+// Every call takes every page, flag word, set and lent slice; a bad one gets the first refusal, and lent memory stays as it was.
 #![tactic(auto)]
 
 pub mod best;

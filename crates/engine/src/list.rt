@@ -17,9 +17,8 @@ pub fn sets(page: &[u8], flags: u16, which: Which, out: &mut [u16]) -> Result<u3
     accept::check_flags(page, flags)?;
     let rows = read::row_words(page);
     let pairs = read::pair_words(page);
-    let room = out.len();
     let count = sets::sets(&rows, &pairs, flags, which, out);
-    if room < count as usize {
+    if out.len() < count as usize {
         return Err(Refusal::NoRoom);
     }
     Ok(count)

@@ -29,8 +29,8 @@ fn noted(found: Option<Difference>, degree: u8, first: bool) -> Option<Differenc
         Some(least) if least.degree < degree => found,
         Some(least) if least.degree == degree => Some(Difference {
             degree,
-            first: least.first | first,
-            second: least.second | !first,
+            first: least.first || first,
+            second: least.second || !first,
         }),
         _ => Some(Difference {
             degree,
@@ -60,7 +60,7 @@ fn raised(flags: u16, m: u16, n: u16) -> Option<Difference>
 {
     let first = !atoms::part_of(atoms::common(flags, m), n);
     let second = !atoms::part_of(atoms::common(flags, n), m);
-    if first | second {
+    if first || second {
         Some(Difference {
             degree: 1,
             first,
@@ -72,6 +72,7 @@ fn raised(flags: u16, m: u16, n: u16) -> Option<Difference>
 }
 
 // m is preferred to n: at the least degree where the two differ, some row has it in m alone and no row has it in n alone.
+#[tactic(auto, using(crate::proofs::LeastKept::rows_next), unfolding(words::specs::Coded::rules_in))]
 pub fn preferred(rows: &[u64], flags: u16, m: u16, n: u16) -> bool
     ensures { means.PreferredSays rows.now flags m n result }
 {
