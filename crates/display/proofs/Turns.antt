@@ -5,7 +5,6 @@ use mathlib.Core.Path.{◌≡◌, refl, sym, ap, ◌∙◌}
 use mathlib.Core.Bool.{Bool, true, false, cond}
 use mathlib.Core.List.{List, [], ◌∷◌}
 use Prim.Native.Nat.{ℕ}
-use native.Mathlib.Omega.{arith}
 use lib.Dec.{T}
 use borrow.Author.Tests.{ne_eqb}
 use Rattle.lpod.specs.Lists.{every}
@@ -14,7 +13,6 @@ use Rattle.page.specs.Fields.{atom_count}
 use Rattle.page.specs.Program.{program}
 use Rattle.page.specs.Refusals as lists
 use Rattle.page.specs.Refusals.{first_that, numbered, flag_refusals}
-use Rattle.page.specs.Answers.{answered}
 use Rattle.page.specs.declared.refusal.Refusal.{Refusal}
 use Rattle.page.specs.declared.refusal.Refusal.TheVariants.{NoOutcome}
 use Rattle.page.proofs.Refusals.{flag_numbered, first_append}
