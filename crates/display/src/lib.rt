@@ -100,6 +100,7 @@ fn lacks_outcome(count: u16, set: u16) -> bool
 
 // The refusals of the pick, then 14 where the page has fewer than four atoms or the pick does not hold exactly one of the four, then 15 where the
 // chosen reading is infinite or not a number; else what the pick shows.
+#[tactic(auto, using(crate::proofs::Turns::by_outcome, crate::proofs::Turns::by_reading))]
 pub fn display(readings: Readings, page: &[u8], flags: u16) -> Result<Shown, Refusal>
     ensures { means.DisplaySays readings page.now flags result }
 {
