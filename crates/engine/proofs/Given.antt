@@ -1,10 +1,13 @@
 -- What a call's number says, from its list of refusals; and what an accepted list leaves in the lent slice. Assumes nothing.
 use Rattle.std.specs.Prelude.{Result, Ok, Err}
+use Rattle.std.specs.Result.{result_unwrap_or}
+use Rattle.std.proofs.Common.{length-append}
 use mathlib.Core.Path.{◌≡◌, refl, sym, ap, ◌∙◌, subst}
 use mathlib.Core.Bool.{cond}
 use mathlib.Core.Logic.{◌↔◌}
 use mathlib.Core.List.{List, ◌++◌}
-use Prim.Native.Nat.{ℕ}
+use Prim.Native.Nat.{ℕ, ◌≤◌}
+use native.Mathlib.Omega.{arith}
 use lib.Dec.{T, eqb, ltb}
 use lib.ListN.{length, take, drop}
 use lib.Seq.{drop_at, take_at}
@@ -15,7 +18,7 @@ use Rattle.page.specs.Refusals.{Refusal, first_that, none_holds, numbered, First
 use Rattle.page.specs.Answers.{no, Answered, answered, by_number}
 use Rattle.page.specs.declared.refusal.Refusal as code
 use Rattle.page.proofs.Refusals.{none_given, given_none, first_given, given_first}
-use Rattle.lanes.specs.Entries.{over}
+use Rattle.lanes.specs.Entries.{over, stored}
 
 -- n is the number of the first refusal of the list that holds, and 0 exactly where none does
 pub record Given (l : List Refusal) (n : ℕ) : Type 0 where
@@ -71,3 +74,17 @@ module _ {A : Type 0} (blank : A) where
     accepted_said x e =
         let z : n ≡ 0 = sym (ap (λ (y : Answered A). y.no) e) in
         (z, ap (λ (y : Answered A). y.value) e ∙ where_accepted n a blank z)
+
+-- ---- what a call counts fits in the slice that it was lent: what it stores stands there, and the slice keeps its length
+module _ (n : ℕ) (xs out after : List ℕ) where
+  over_fits : after ≡ over xs out → length after ≡ length out → length xs ≤ length after
+  unfolding over
+  over_fits e same = omega (arith, simp length-append at (ap length e))
+
+  pub count_fits : (r : Result ℕ code.Refusal) → answered 0 r ≡ by_number 0 n (length xs) → after ≡ stored n xs out → length after ≡ length out
+      → result_unwrap_or r 0 ≤ length after
+  unfolding stored
+  count_fits (Ok a) e s same =
+      let said = accepted_said 0 (length xs) n a e in
+      omega (arith, said.1, over_fits (s ∙ where_accepted n (over xs out) out said.0) same)
+  count_fits (Err x) e s same = omega arith

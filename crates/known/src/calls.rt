@@ -1,19 +1,31 @@
 // The calls that lend no memory: the three tests, the rounds, the comparison, the pick, the row reader, the panel letter.
+// A refused call gets the number of its refusal, and 0 or `no` where its value would stand.
+use engine::compare::Side;
 use page::reader;
-use page::reader::Step;
+use page::refusal::Refusal;
 use page::rows::Row;
-use routes::{Verdict, here_there, reduct, split};
+use routes::{here_there, reduct, split};
 use std::io;
+
+// The number of an answer: 0 where the call is accepted.
+pub fn number_of<T: Drop>(answer: Result<T, Refusal>) -> u16 {
+    answer.err().map_or(0, |refusal| refusal.number())
+}
 
 fn yes_or_no(yes: bool) -> &'static str {
     if yes { "yes" } else { "no" }
 }
 
 // What a test said of one set.
-fn say_verdict(rt: &impl Print, test: &str, set: u16, verdict: Verdict) -> io::Result<()> {
-    let no = verdict.no;
-    let yes = yes_or_no(verdict.yes);
-    println!(rt; "  {test} test of {set}: number {no}, {yes}")
+fn say_verdict(
+    rt: &impl Print,
+    test: &str,
+    set: u16,
+    verdict: Result<bool, Refusal>,
+) -> io::Result<()> {
+    let number = number_of(verdict);
+    let yes = yes_or_no(verdict.unwrap_or(false));
+    println!(rt; "  {test} test of {set}: number {number}, {yes}")
 }
 
 // One set by the reduct.
@@ -29,19 +41,19 @@ pub fn here_there(rt: &impl Print, page: &[u8], flags: u16, set: u16) -> io::Res
 
 // One set by split programs.
 pub fn split(rt: &impl Print, page: &[u8], flags: u16, set: u16) -> io::Result<()> {
-    let split = split::split_test(page, flags, set);
-    let no = split.no;
-    let count = split.count;
-    let yes = yes_or_no(split.yes);
-    println!(rt; "  split test of {set}: number {no}, {yes}, count {count}")
+    let counted = split::split_test(page, flags, set);
+    let number = number_of(counted);
+    let count = counted.unwrap_or(0);
+    let yes = yes_or_no(0 < count);
+    println!(rt; "  split test of {set}: number {number}, {yes}, count {count}")
 }
 
 // How many rounds add something on the way to one set.
 pub fn rounds(rt: &impl Print, page: &[u8], flags: u16, set: u16) -> io::Result<()> {
     let counted = reduct::rounds(page, flags, set);
-    let no = counted.no;
-    let count = counted.count;
-    println!(rt; "  rounds to {set}: number {no}, count {count}")
+    let number = number_of(counted);
+    let count = counted.unwrap_or(0);
+    println!(rt; "  rounds to {set}: number {number}, count {count}")
 }
 
 // What the three tests say of one set: whether all are accepted and agree, and whether the set is an answer set.
@@ -53,13 +65,12 @@ struct Three {
 
 // One set by all three.
 fn by_three(page: &[u8], flags: u16, set: u16) -> Three {
-    let a = reduct::reduct_test(page, flags, set);
-    let b = here_there::here_there_test(page, flags, set);
-    let c = split::split_test(page, flags, set);
-    let accepted = a.no == 0 && b.no == 0 && c.no == 0;
+    let by_reduct = reduct::reduct_test(page, flags, set);
+    let by_here_there = here_there::here_there_test(page, flags, set);
+    let by_split = split::split_test(page, flags, set).map(|count| 0 < count);
     Three {
-        agree: accepted && a.yes == b.yes && a.yes == c.yes,
-        yes: a.yes,
+        agree: by_reduct.is_ok() && by_reduct == by_here_there && by_reduct == by_split,
+        yes: by_reduct.unwrap_or(false),
     }
 }
 
@@ -96,28 +107,27 @@ pub fn compare(
     second: u16,
 ) -> io::Result<()> {
     let compared = engine::compare::compare(page, flags, first, second);
-    let no = compared.no;
-    let side = match compared.side {
-        1 => "+1",
-        0 => "0",
-        -1 => "-1",
-        _ => "no side",
+    let number = number_of(compared);
+    let side = match compared {
+        Ok(Side::First) => "+1",
+        Ok(Side::Second) => "-1",
+        Ok(Side::Neither) | Err(_) => "0",
     };
-    println!(rt; "  compare {first} with {second}: number {no}, side {side}")
+    println!(rt; "  compare {first} with {second}: number {number}, side {side}")
 }
 
 // The pick.
 pub fn pick(rt: &impl Print, page: &[u8], flags: u16) -> io::Result<()> {
     let picked = engine::pick::pick(page, flags);
-    let no = picked.no;
-    let set = picked.set;
-    println!(rt; "  pick: number {no}, set {set}")
+    let number = number_of(picked);
+    let set = picked.unwrap_or(0);
+    println!(rt; "  pick: number {number}, set {set}")
 }
 
 // What the row reader finds at a number.
 fn row(rt: &impl Print, page: &[u8], n: u16) -> io::Result<()> {
     match reader::row_at(page, n) {
-        Step::Row(row) => {
+        Some(row) => {
             let Row {
                 head,
                 pos,
@@ -128,7 +138,7 @@ fn row(rt: &impl Print, page: &[u8], n: u16) -> io::Result<()> {
                 "  row {n}: head {head}, positive {pos}, negative {neg}, first literal at {place}"
             )
         }
-        Step::Past => println!(rt; "  row {n}: past"),
+        None => println!(rt; "  row {n}: past"),
     }
 }
 

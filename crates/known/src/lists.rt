@@ -1,8 +1,10 @@
 // The calls that store in lent memory. The memory is filled before the call, and after it every entry is looked at: what is stored, and how
 // many of the later ones are as they were.
 ghost use Rattle.std.specs.Prelude.{◌≤◌, length};
+ghost use Rattle.std.specs.Result.{result_unwrap_or};
 
-use engine::list::Listed;
+use super::calls::number_of;
+use page::refusal::Refusal;
 use std::{fmt, io};
 
 // Room for more sets than a page can have, and what each entry is before the call.
@@ -62,15 +64,21 @@ fn sum_of(sets: &[u16]) -> u32 {
 }
 
 // What a call that lists sets into the first n entries answered, and what it stored.
-fn say_listed(rt: &impl Print, word: &str, n: u16, listed: Listed, out: &[u16]) -> io::Result<()>
-    requires { listed.count ≤ length out.now }
+fn say_listed(
+    rt: &impl Print,
+    word: &str,
+    n: u16,
+    listed: Result<u32, Refusal>,
+    out: &[u16],
+) -> io::Result<()>
+    requires { result_unwrap_or listed 0 ≤ length out.now }
 {
-    let no = listed.no;
-    let count = listed.count;
+    let number = number_of(listed);
+    let count = listed.unwrap_or(0);
     let (stored, rest) = out.split_at(count as usize);
     let sets = Sets(stored);
     let kept = rest.iter().filter(|&&set| set == UNTOUCHED).count();
-    println!(rt; "  {word} into {n}: number {no}, count {count}, sets{sets}, kept {kept}")
+    println!(rt; "  {word} into {n}: number {number}, count {count}, sets{sets}, kept {kept}")
 }
 
 // All answer sets, into a slice of n entries.
@@ -93,8 +101,8 @@ pub fn degrees(rt: &impl Print, page: &[u8], flags: u16, set: u16, n: u16) -> io
     let mut out = [9u8; 34];
     let room = usize::from(n).min(out.len());
     let graded = engine::degrees::degrees(page, flags, set, &mut out[..room]);
-    let no = graded.no;
-    let count = graded.count;
+    let number = number_of(graded);
+    let count = graded.unwrap_or(0);
     let memory = Bytes(&out);
-    println!(rt; "  degrees of {set} into {n}: number {no}, count {count}, memory {memory}")
+    println!(rt; "  degrees of {set} into {n}: number {number}, count {count}, memory {memory}")
 }

@@ -6,6 +6,7 @@ ghost use Rattle.std.specs.Prelude.{Some, ◌∷◌};
 ghost use Rattle.std.specs.List.{flat_map};
 ghost use Rattle.std.specs.Fmt.{decimal};
 
+use page::refusal::Refusal;
 use std::{fmt, io};
 
 // Room for so many sets. A page with more is refused by 11.
@@ -26,14 +27,23 @@ impl fmt::Display for Degrees<'_> {
     }
 }
 
+// The line of a refusal.
+fn say_refused(rt: &impl Print, refusal: Refusal) -> io::Result<()> {
+    println!(rt; "refused {refusal}")
+}
+
 // The line of one answer set.
 fn say_set(rt: &impl Print, page: &[u8], flags: u16, set: u16, is_best: bool) -> io::Result<()> {
     let mut degrees = [0u8; 32];
-    let graded = engine::degrees::degrees(page, flags, set, &mut degrees);
-    let degrees = Degrees(&degrees[..usize::from(graded.count)]);
-    let none = if graded.count == 0 { " none" } else { "" };
-    let best = if is_best { " best" } else { "" };
-    println!(rt; "set {set} degrees{degrees}{none}{best}")
+    match engine::degrees::degrees(page, flags, set, &mut degrees) {
+        Ok(many) => {
+            let degrees = Degrees(&degrees[..usize::from(many)]);
+            let none = if many == 0 { " none" } else { "" };
+            let best = if is_best { " best" } else { "" };
+            println!(rt; "set {set} degrees{degrees}{none}{best}")
+        }
+        Err(refusal) => say_refused(rt, refusal),
+    }
 }
 
 // The lines of all answer sets. Both lists rise and every best set is an answer set, so one pass through both finds which are best.
@@ -54,42 +64,39 @@ fn say_sets(
 
 // The last line: the pick, or why there is none.
 fn say_pick(rt: &impl Print, page: &[u8], flags: u16) -> io::Result<()> {
-    let picked = engine::pick::pick(page, flags);
-    let no = picked.no;
-    let set = picked.set;
-    if no != 0 {
-        return println!(rt; "refused {no}");
+    match engine::pick::pick(page, flags) {
+        Ok(set) => println!(rt; "pick {set}"),
+        Err(refusal) => say_refused(rt, refusal),
     }
-    println!(rt; "pick {set}")
+}
+
+// The lines of a page's answer sets and of the pick.
+fn say_answers(rt: &impl Print, page: &[u8], flags: u16, sets: &[u16]) -> io::Result<()> {
+    let many = sets.len();
+    println!(rt; "sets {many}")?;
+    let mut best = [0u16; ROOM];
+    match engine::best::best(page, flags, &mut best) {
+        Ok(many_best) => {
+            say_sets(rt, page, flags, sets, &best[..many_best as usize])?;
+            say_pick(rt, page, flags)
+        }
+        Err(refusal) => say_refused(rt, refusal),
+    }
 }
 
 // All that is printed of a page and a flag word.
 fn say_page(rt: &impl Print, page: &[u8], flags: u16) -> io::Result<()> {
     let mut sets = [0u16; ROOM];
-    let listed = engine::list::list(page, flags, &mut sets);
-    let no = listed.no;
-    let count = listed.count;
-    if no != 0 {
-        return println!(rt; "refused {no}");
+    match engine::list::list(page, flags, &mut sets) {
+        Ok(many) => say_answers(rt, page, flags, &sets[..many as usize]),
+        Err(refusal) => say_refused(rt, refusal),
     }
-    println!(rt; "sets {count}")?;
-    let mut best = [0u16; ROOM];
-    let listed_best = engine::best::best(page, flags, &mut best);
-    let many_best = listed_best.count;
-    say_sets(
-        rt,
-        page,
-        flags,
-        &sets[..count as usize],
-        &best[..many_best as usize],
-    )?;
-    say_pick(rt, page, flags)
 }
 
 // The input: a flag word and the page.
 fn say_input(rt: &impl Print, input: &[u8]) -> io::Result<()> {
     if input.len() < 2 {
-        return println!(rt; "refused 1");
+        return say_refused(rt, Refusal::TooShort);
     }
     let flags = u16::from_le_bytes([input[0], input[1]]);
     say_page(rt, &input[2..], flags)

@@ -7,6 +7,7 @@ ghost use Rattle.std.specs.List.{flat_map, range_with_len};
 ghost use Rattle.std.specs.Fmt.{decimal};
 ghost use Rattle.atoms.specs.Atoms.{has};
 
+use page::refusal::Refusal;
 use routes::reduct;
 use std::{fmt, io};
 
@@ -27,6 +28,11 @@ impl fmt::Display for Atoms {
     }
 }
 
+// The line of a refusal.
+fn say_refused(rt: &impl Print, refusal: Refusal) -> io::Result<()> {
+    println!(rt; "refused {refusal}")
+}
+
 // The line of one set.
 fn say_set(rt: &impl Print, set: u16, rounds: u32) -> io::Result<()> {
     let atoms = Atoms(set);
@@ -37,12 +43,10 @@ fn say_set(rt: &impl Print, set: u16, rounds: u32) -> io::Result<()> {
 // The lines from the first set to the last, or to the first that is refused. Where the last is below the first, the first alone.
 fn say_sets(rt: &impl Print, page: &[u8], flags: u16, first: u16, last: u16) -> io::Result<()> {
     for set in first..=last.max(first) {
-        let counted = reduct::rounds(page, flags, set);
-        let no = counted.no;
-        if no != 0 {
-            return println!(rt; "refused {no}");
+        match reduct::rounds(page, flags, set) {
+            Ok(rounds) => say_set(rt, set, rounds)?,
+            Err(refusal) => return say_refused(rt, refusal),
         }
-        say_set(rt, set, counted.count)?;
     }
     Ok(())
 }
@@ -50,7 +54,7 @@ fn say_sets(rt: &impl Print, page: &[u8], flags: u16, first: u16, last: u16) -> 
 // The input: a flag word, two sets and the page. Where it breaks off before the page, the page is too short.
 fn say_input(rt: &impl Print, input: &[u8]) -> io::Result<()> {
     if input.len() < 6 {
-        return println!(rt; "refused 1");
+        return say_refused(rt, Refusal::TooShort);
     }
     let flags = u16::from_le_bytes([input[0], input[1]]);
     let first = u16::from_le_bytes([input[2], input[3]]);
