@@ -1,4 +1,4 @@
--- `none_smaller` asks each number below `there`. Assumes nothing.
+-- `none_smaller` asks each number below `there`. A list that is read at H makes `ranges` say that H is one of them. Assumes nothing.
 use Rattle.std.proofs.Common.{rules, arith, ◌≡◌, refl, get_or}
 use Rattle.std.proofs.lemmas.Grind.{common_steps}
 use Rattle.std.proofs.iter.runs.Sources.{ranges}
