@@ -52,7 +52,7 @@ pub fn how_many(s: u16) -> u32
     u16::count_ones(s)
 }
 
-// The lowest atom of s, 16 where s is empty.
+// The lowest atom of s, 16 where s is empty: a number and no `Option`, as `lowest` of specs/Atoms.antt says it and the library's call gives it.
 pub fn lowest(s: u16) -> u32
     ensures { result ≡ sets.lowest s }
 {

@@ -3,7 +3,7 @@
 // the crates below; here its answer becomes one word.
 #![tactic(auto)]
 
-ghost use Rattle.std.specs.Prelude.{◌≡◌};
+ghost use Rattle.std.specs.Prelude.{◌≡◌, ◌≤◌};
 ghost use Rattle.lpod.specs.Answer.{answer_sets};
 ghost use Rattle.lpod.specs.Best.{best_sets};
 ghost use Rattle.page.specs.Program.{program};
@@ -19,12 +19,23 @@ use page::refusal::Refusal;
 
 // The answer as one word: its value, or 65,536 times the number of its refusal.
 #[tactic(auto, unfolding(crate::specs::Words::word))]
-fn word(answer: Result<u32, Refusal>) -> u32
+fn word(answer: Result<u16, Refusal>) -> u32
     ensures { result ≡ means.word (answered 0 answer).no (answered 0 answer).value }
 {
     match answer {
-        Ok(value) => value,
+        Ok(value) => u32::from(value),
         Err(refusal) => 65536 * u32::from(refusal.number()),
+    }
+}
+
+// A count that fits the lower half of a word, as one of its width.
+fn counted(answer: Result<u32, Refusal>) -> Result<u16, Refusal>
+    requires { (answered 0 answer).value ≤ 65535 }
+    ensures { result ≡ answer }
+{
+    match answer {
+        Ok(count) => Ok(count as u16),
+        Err(refusal) => Err(refusal),
     }
 }
 
@@ -33,7 +44,7 @@ fn word(answer: Result<u32, Refusal>) -> u32
 pub extern "C" fn pipeotter_pick(page: &[u8], flags: u16) -> u32
     ensures { result ≡ means.pick_word page.now flags }
 {
-    word(engine::pick::pick(page, flags).map(u32::from))
+    word(engine::pick::pick(page, flags))
 }
 
 // Is the set an answer set? By the reduct: 1 yes, 0 no.
@@ -41,7 +52,7 @@ pub extern "C" fn pipeotter_pick(page: &[u8], flags: u16) -> u32
 pub extern "C" fn pipeotter_reduct_test(page: &[u8], flags: u16, set: u16) -> u32
     ensures { result ≡ means.reduct_word page.now flags set }
 {
-    word(routes::reduct::reduct_test(page, flags, set).map(u32::from))
+    word(routes::reduct::reduct_test(page, flags, set).map(u16::from))
 }
 
 // The same by here-and-there.
@@ -49,7 +60,7 @@ pub extern "C" fn pipeotter_reduct_test(page: &[u8], flags: u16, set: u16) -> u3
 pub extern "C" fn pipeotter_here_there_test(page: &[u8], flags: u16, set: u16) -> u32
     ensures { result ≡ means.here_there_word page.now flags set }
 {
-    word(routes::here_there::here_there_test(page, flags, set).map(u32::from))
+    word(routes::here_there::here_there_test(page, flags, set).map(u16::from))
 }
 
 // In how many split programs the set is an answer set.
@@ -57,7 +68,7 @@ pub extern "C" fn pipeotter_here_there_test(page: &[u8], flags: u16, set: u16) -
 pub extern "C" fn pipeotter_split_test(page: &[u8], flags: u16, set: u16) -> u32
     ensures { result ≡ means.split_word page.now flags set }
 {
-    word(routes::split::split_test(page, flags, set).map(u32::from))
+    word(routes::split::split_test(page, flags, set))
 }
 
 // How many rounds add something on the way to the set, an answer set or not.
@@ -65,7 +76,7 @@ pub extern "C" fn pipeotter_split_test(page: &[u8], flags: u16, set: u16) -> u32
 pub extern "C" fn pipeotter_rounds(page: &[u8], flags: u16, set: u16) -> u32
     ensures { result ≡ means.rounds_word page.now flags set }
 {
-    word(routes::reduct::rounds(page, flags, set))
+    word(counted(routes::reduct::rounds(page, flags, set)))
 }
 
 // All answer sets, rising, into the lent slice; the value is their number.
@@ -73,7 +84,7 @@ pub extern "C" fn pipeotter_rounds(page: &[u8], flags: u16, set: u16) -> u32
 pub extern "C" fn pipeotter_list(page: &[u8], flags: u16, sets: &mut [u16]) -> u32
     ensures { means.SetsGiven (answer_sets (program page.now flags)) page.now flags sets.old result sets.new }
 {
-    word(engine::list::list(page, flags, sets))
+    word(counted(engine::list::list(page, flags, sets)))
 }
 
 // The best sets, likewise.
@@ -81,7 +92,7 @@ pub extern "C" fn pipeotter_list(page: &[u8], flags: u16, sets: &mut [u16]) -> u
 pub extern "C" fn pipeotter_best(page: &[u8], flags: u16, sets: &mut [u16]) -> u32
     ensures { means.SetsGiven (best_sets (program page.now flags)) page.now flags sets.old result sets.new }
 {
-    word(engine::best::best(page, flags, sets))
+    word(counted(engine::best::best(page, flags, sets)))
 }
 
 // The degrees of an answer set, one for each row; the value is the number of rows.
@@ -89,7 +100,7 @@ pub extern "C" fn pipeotter_best(page: &[u8], flags: u16, sets: &mut [u16]) -> u
 pub extern "C" fn pipeotter_degrees(page: &[u8], flags: u16, set: u16, degrees: &mut [u8]) -> u32
     ensures { means.DegreesGiven page.now flags set degrees.old result degrees.new }
 {
-    word(engine::degrees::degrees(page, flags, set, degrees).map(u32::from))
+    word(engine::degrees::degrees(page, flags, set, degrees))
 }
 
 // A page made from its parts, in the lent buffer; the value is its length.
@@ -109,12 +120,12 @@ pub extern "C" fn pipeotter_write(
         literals,
         pairs,
     };
-    word(writer::write(&content, buffer).map(u32::from))
+    word(writer::write(&content, buffer))
 }
 
 // What C gets for a comparison: 1 the first is preferred, 2 the second, 0 neither.
 #[tactic(auto, unfolding(crate::specs::Words::side_value))]
-fn side_value(side: Side) -> u32
+fn side_value(side: Side) -> u16
     ensures { result ≡ means.side_value (side_number side) }
 {
     match side {
@@ -142,7 +153,7 @@ pub extern "C" fn pipeotter_letter(number: u16) -> u8
 
 // What C gets for the case that is shown: 0 no number, 1 live, 2 second, 3 held.
 #[tactic(auto, unfolding(crate::specs::Words::case_value))]
-fn case_value(shown: Shown) -> u32
+fn case_value(shown: Shown) -> u16
     ensures { result ≡ means.case_value shown }
 {
     match shown {

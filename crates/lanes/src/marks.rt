@@ -119,7 +119,7 @@ fn store_runs(marks: &[u64], b: u16, out: &mut [u16], k: usize) -> usize
     at
 }
 
-// The same set by set.
+// The same set by set. It is not one loop with the one above: the test that tells them apart is made once for a block and not for each run.
 fn store_each(marks: &[u64], b: u16, out: &mut [u16], k: usize) -> usize
     requires { BlockFits marks.now b k out.old }
     ensures { BlockStored marks.now b k out.old result out.new }

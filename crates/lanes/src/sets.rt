@@ -57,7 +57,8 @@ fn keep_wanted(rules: Rules, span: Span, which: Which, index: &mut [u32], marks:
     ranking.keep_best(&mut *marks);
 }
 
-// The least of the best marked sets. Rows that do not rank are left out.
+// The least of the best marked sets. Rows that do not rank are left out. The rows that are kept lie in this call's own memory, which no function can
+// hand up, so this and `keep_wanted` begin alike.
 fn first_best(rules: Rules, span: Span, index: &mut [u32], marks: &mut [u64]) -> Option<u16>
     requires { (length rules.rows.now ≤ 32) × (length marks.old ≤ 1024) × (length marks.old ≤ length index.old) × (span.low < length marks.old) × Within marks.old span.low span.high }
     ensures { number_of result ≡ next_from (sought_best (over (keep ranks rules.entry.rows.now)) marks.old) 0 }

@@ -2,7 +2,8 @@
 ghost use Rattle.std.specs.Prelude.{◌≡◌};
 ghost use Rattle.page.specs.Letter.{letter_of};
 
-// P for a page fault, C for a call fault, F for a finding, and a blank for 0 and every other number.
+// P for a page fault, C for a call fault, F for a finding, and a blank for 0 and every other number. C asks by a number, and by any: so this takes a
+// number and no `Refusal`.
 #[tactic(auto, using(std::proofs::lemmas::Bool::Decides::nat_tests), unfolding(crate::specs::Letter::letter_of))]
 pub fn letter(number: u16) -> u8
     ensures { result ≡ letter_of number }

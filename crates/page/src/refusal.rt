@@ -1,5 +1,6 @@
 // Why a call is refused. The numbers are those that C is given and that the programs print.
-ghost use Rattle.std.specs.Prelude.{◌≡◌};
+ghost use Rattle.std.specs.Prelude.{◌≡◌, Some};
+ghost use Rattle.std.specs.Fmt.{decimal};
 ghost use Rattle.page.specs.Answers as means;
 
 use std::error::Error;
@@ -65,6 +66,8 @@ impl Refusal {
 
 // The number, as the programs print it.
 impl fmt::Display for Refusal {
+    ghost output = { λ e. Some (decimal (means.number e)) };
+
     fn fmt<W: fmt::Write>(&self, f: &mut fmt::Formatter<W>) -> fmt::Result {
         write!(f, "{}", self.number())
     }

@@ -64,9 +64,10 @@ fn row_word(page: &[u8], row: rows::Row) -> u64
 pub fn row_words(page: &[u8]) -> ArrayVec<u64, 32>
     ensures { result.items ≡ means.row_words page.now }
 {
+    let total = row_total(page);
     let mut words = ArrayVec::new();
     let mut place = rows::first_place(page);
-    for n in 0..row_total(page) {
+    for n in 0..total {
         let row = rows::row_from(page, n as u16, place);
         words.push(row_word(page, row));
         place = rows::place_after(row);

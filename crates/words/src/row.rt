@@ -25,7 +25,8 @@ pub fn head_count(row: u64) -> u8
     (row / 4294967296 % 256) as u8
 }
 
-// The place, counted from 1, of the first head atom in s; 0 where none is.
+// The place, counted from 1, of the first head atom in s; 0 where none is. It is a number and no `Option`, since it is the row's degree in s, and
+// `place` of the definitions writes the degree of a row that s misses as 0.
 pub fn head_place(row: u64, s: u16) -> u8
     ensures { result ≡ degrees.place 1 (rule_in row).head s }
 {
@@ -47,7 +48,7 @@ pub fn head_in(row: u64, s: u16) -> bool
     head_place(row, s) != 0
 }
 
-// The head atom at k, counted from 0; 0 past the head.
+// The head atom at k, counted from 0; 0 past the head, as the contract's `get_or` says. Whoever asks has a place within.
 #[tactic(auto, using(crate::proofs::Places::head_at, crate::proofs::Places::head_past, crate::proofs::Places::head_high))]
 pub fn head_atom(row: u64, k: u8) -> u8
     ensures { result ≡ get_or (rule_in row).head k 0 }

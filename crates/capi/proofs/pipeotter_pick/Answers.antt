@@ -1,9 +1,10 @@
 -- `capi::pipeotter_pick` is the pick's number and set as one word. Assumes nothing.
-use Rattle.std.proofs.Common.{rules, refl, ◌∙◌}
-use Rattle.capi.specs.Words.{pick_word}
-use Rattle.capi.proofs.Mapped.{word_mapped}
+use mathlib.Core.Path.{◌∙◌, ap}
+use Prim.Native.Nat.{ℕ}
+use Rattle.page.specs.Answers.{Answered}
+use Rattle.capi.specs.Words.{word, pick_word}
 use Rattle.capi.proofs.pipeotter_pick.Goals as goal
 
 pub returns : goal.returns
 unfolding pick_word
-returns c = c.word.ensures ∙ word_mapped 0 (λ x. x) refl c.pick.result c.map.result (λ a h. search rules) (λ e h. search rules) _ c.pick.ensures
+returns c = c.word.ensures ∙ ap (λ (x : Answered ℕ). word x.no x.value) c.pick.ensures

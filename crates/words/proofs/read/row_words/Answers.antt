@@ -21,7 +21,7 @@ loop-n-init c =
     record {
       at_row = at_first _ _ first;
       many = rw c.new-words.ensures refl;
-      filled = rw (c.new-words.ensures, sub-zero, first, c.row_total-n-end.ensures.0);
+      filled = rw (c.new-words.ensures, sub-zero, first, c.row_total-total.ensures.0);
     }
 
 pub loop-n-preserved : goal.loop-n-preserved
@@ -29,8 +29,8 @@ loop-n-preserved c =
     let w = c.row_word in
     let row = c.row_from-row in
     let h = c.loop-n in
-    let total = c.row_total-n-end.result in
-    let small : h.n < 65536 = omega (arith, c.row_total-n-end.ensures.1) in
+    let total = c.row_total-total.result in
+    let small : h.n < 65536 = omega (arith, c.row_total-total.ensures.1) in
     record {
       at_row = at_next _ c.type_inv.page h.n _ row.result small h.invariant.at_row row.ensures _ c.place_after-place.ensures;
       many = omega (arith, c.push.ensures.len, h.invariant.many);
@@ -41,4 +41,4 @@ loop-n-preserved c =
 pub returns : goal.returns
 returns c =
     let h = c.loop-n in
-    all_pushed _ _ _ h.invariant.filled (ap (map row_word) (rest_none c.args.page.now h.n h.place c.row_total-n-end.result (omega arith)))
+    all_pushed _ _ _ h.invariant.filled (ap (map row_word) (rest_none c.args.page.now h.n h.place c.row_total-total.result (omega arith)))

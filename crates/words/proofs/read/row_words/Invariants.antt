@@ -8,5 +8,5 @@ abbrev pub invariant-loop-n : goal.invariant-loop-n
 invariant-loop-n l = record {
   at_row : l.place ≡ literal_place l.page l.n;
   many : length l.words.items ≡ l.n;
-  filled : l.words.items ++ map row_word (rows_from l.page l.n l.place (l.n-end - l.n)) ≡ row_words l.page;
+  filled : l.words.items ++ map row_word (rows_from l.page l.n l.place (l.total - l.n)) ≡ row_words l.page;
 }
