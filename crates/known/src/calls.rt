@@ -1,5 +1,6 @@
 // The calls that lend no memory: the three tests, the rounds, the comparison, the pick, the row reader, the panel letter.
 // A refused call gets the number of its refusal, and 0 or `no` where its value would stand.
+use super::input::Case;
 use engine::compare::Side;
 use page::reader;
 use page::refusal::Refusal;
@@ -29,19 +30,20 @@ fn say_verdict(
 }
 
 // One set by the reduct.
-pub fn reduct(rt: &impl Print, page: &[u8], flags: u16, set: u16) -> io::Result<()> {
-    say_verdict(rt, "reduct", set, reduct::reduct_test(page, flags, set))
+pub fn reduct(rt: &impl Print, case: &Case, set: u16) -> io::Result<()> {
+    let verdict = reduct::reduct_test(case.page, case.flags, set);
+    say_verdict(rt, "reduct", set, verdict)
 }
 
 // One set by here-and-there.
-pub fn here_there(rt: &impl Print, page: &[u8], flags: u16, set: u16) -> io::Result<()> {
-    let verdict = here_there::here_there_test(page, flags, set);
+pub fn here_there(rt: &impl Print, case: &Case, set: u16) -> io::Result<()> {
+    let verdict = here_there::here_there_test(case.page, case.flags, set);
     say_verdict(rt, "here-and-there", set, verdict)
 }
 
 // One set by split programs.
-pub fn split(rt: &impl Print, page: &[u8], flags: u16, set: u16) -> io::Result<()> {
-    let counted = split::split_test(page, flags, set);
+pub fn split(rt: &impl Print, case: &Case, set: u16) -> io::Result<()> {
+    let counted = split::split_test(case.page, case.flags, set);
     let number = number_of(counted);
     let count = counted.unwrap_or(0);
     let yes = yes_or_no(0 < count);
@@ -49,8 +51,8 @@ pub fn split(rt: &impl Print, page: &[u8], flags: u16, set: u16) -> io::Result<(
 }
 
 // How many rounds add something on the way to one set.
-pub fn rounds(rt: &impl Print, page: &[u8], flags: u16, set: u16) -> io::Result<()> {
-    let counted = reduct::rounds(page, flags, set);
+pub fn rounds(rt: &impl Print, case: &Case, set: u16) -> io::Result<()> {
+    let counted = reduct::rounds(case.page, case.flags, set);
     let number = number_of(counted);
     let count = counted.unwrap_or(0);
     println!(rt; "  rounds to {set}: number {number}, count {count}")
@@ -64,10 +66,10 @@ struct Three {
 }
 
 // One set by all three.
-fn by_three(page: &[u8], flags: u16, set: u16) -> Three {
-    let by_reduct = reduct::reduct_test(page, flags, set);
-    let by_here_there = here_there::here_there_test(page, flags, set);
-    let by_split = split::split_test(page, flags, set).map(|count| 0 < count);
+fn by_three(case: &Case, set: u16) -> Three {
+    let by_reduct = reduct::reduct_test(case.page, case.flags, set);
+    let by_here_there = here_there::here_there_test(case.page, case.flags, set);
+    let by_split = split::split_test(case.page, case.flags, set).map(|count| 0 < count);
     Three {
         agree: by_reduct.is_ok() && by_reduct == by_here_there && by_reduct == by_split,
         yes: by_reduct.unwrap_or(false),
@@ -81,11 +83,11 @@ struct Tally {
     answers: u32,
 }
 
-fn agreement(page: &[u8], flags: u16, below: u16) -> Tally {
+fn agreement(case: &Case, below: u16) -> Tally {
     let mut agreed = 0;
     let mut answers = 0;
     for set in 0..below {
-        let three = by_three(page, flags, set);
+        let three = by_three(case, set);
         agreed += u32::from(three.agree);
         answers += u32::from(three.yes);
     }
@@ -93,20 +95,14 @@ fn agreement(page: &[u8], flags: u16, below: u16) -> Tally {
 }
 
 // All sets below a number, by all three tests.
-pub fn all_three(rt: &impl Print, page: &[u8], flags: u16, below: u16) -> io::Result<()> {
-    let Tally { agreed, answers } = agreement(page, flags, below);
+pub fn all_three(rt: &impl Print, case: &Case, below: u16) -> io::Result<()> {
+    let Tally { agreed, answers } = agreement(case, below);
     println!(rt; "  three tests of {below} sets: agreed {agreed}, yes {answers}")
 }
 
 // Two sets compared.
-pub fn compare(
-    rt: &impl Print,
-    page: &[u8],
-    flags: u16,
-    first: u16,
-    second: u16,
-) -> io::Result<()> {
-    let compared = engine::compare::compare(page, flags, first, second);
+pub fn compare(rt: &impl Print, case: &Case, first: u16, second: u16) -> io::Result<()> {
+    let compared = engine::compare::compare(case.page, case.flags, first, second);
     let number = number_of(compared);
     let side = match compared {
         Ok(Side::First) => "+1",
@@ -117,8 +113,8 @@ pub fn compare(
 }
 
 // The pick.
-pub fn pick(rt: &impl Print, page: &[u8], flags: u16) -> io::Result<()> {
-    let picked = engine::pick::pick(page, flags);
+pub fn pick(rt: &impl Print, case: &Case) -> io::Result<()> {
+    let picked = engine::pick::pick(case.page, case.flags);
     let number = number_of(picked);
     let set = picked.unwrap_or(0);
     println!(rt; "  pick: number {number}, set {set}")

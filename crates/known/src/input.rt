@@ -3,6 +3,8 @@
 // A byte past the end reads as 0, so any bytes will do.
 ghost use Rattle.std.specs.Prelude.{◌<◌, ◌≤◌, length, IfSome};
 
+use engine::list::Which;
+
 // A case, as far as the input has it: its name, its flag word, its page, how many calls it has, and their bytes.
 #[derive(Clone, Copy)]
 pub struct Case<'a> {
@@ -16,8 +18,7 @@ pub struct Case<'a> {
 // What to run, with its numbers.
 #[derive(Clone, Copy)]
 pub enum Call {
-    List { room: u16 },
-    Best { room: u16 },
+    List { which: Which, room: u16 },
     Degrees { set: u16, room: u16 },
     Reduct { set: u16 },
     Rounds { set: u16 },
@@ -95,8 +96,14 @@ impl Call {
         let (first, rest) = word(rest);
         let (second, _) = word(rest);
         match letter {
-            b'l' => Some(Call::List { room: first }),
-            b'b' => Some(Call::Best { room: first }),
+            b'l' => Some(Call::List {
+                which: Which::All,
+                room: first,
+            }),
+            b'b' => Some(Call::List {
+                which: Which::Best,
+                room: first,
+            }),
             b'd' => Some(Call::Degrees {
                 set: first,
                 room: second,

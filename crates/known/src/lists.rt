@@ -4,6 +4,8 @@ ghost use Rattle.std.specs.Prelude.{◌≤◌, length};
 ghost use Rattle.std.specs.Result.{result_unwrap_or};
 
 use super::calls::number_of;
+use super::input::Case;
+use engine::list::Which;
 use page::refusal::Refusal;
 use std::{fmt, io};
 
@@ -81,26 +83,23 @@ fn say_listed(
     println!(rt; "  {word} into {n}: number {number}, count {count}, sets{sets}, kept {kept}")
 }
 
-// All answer sets, into a slice of n entries.
-pub fn list(rt: &impl Print, page: &[u8], flags: u16, n: u16) -> io::Result<()> {
+// All answer sets, or the best of them, into a slice of n entries.
+pub fn list(rt: &impl Print, case: &Case, which: Which, n: u16) -> io::Result<()> {
     let mut out = [UNTOUCHED; ROOM];
-    let listed = engine::list::list(page, flags, &mut out[..usize::from(n)]);
-    say_listed(rt, "list", n, listed, &out)
-}
-
-// The best of them.
-pub fn best(rt: &impl Print, page: &[u8], flags: u16, n: u16) -> io::Result<()> {
-    let mut out = [UNTOUCHED; ROOM];
-    let listed = engine::best::best(page, flags, &mut out[..usize::from(n)]);
-    say_listed(rt, "best", n, listed, &out)
+    let listed = engine::list::sets(case.page, case.flags, which, &mut out[..usize::from(n)]);
+    let word = match which {
+        Which::All => "list",
+        Which::Best => "best",
+    };
+    say_listed(rt, word, n, listed, &out)
 }
 
 // The degrees of a set, into a slice of n entries. There is room for two more than a page can have rows; each entry is 9, which no degree
 // is, before the call.
-pub fn degrees(rt: &impl Print, page: &[u8], flags: u16, set: u16, n: u16) -> io::Result<()> {
+pub fn degrees(rt: &impl Print, case: &Case, set: u16, n: u16) -> io::Result<()> {
     let mut out = [9u8; 34];
     let room = usize::from(n).min(out.len());
-    let graded = engine::degrees::degrees(page, flags, set, &mut out[..room]);
+    let graded = engine::degrees::degrees(case.page, case.flags, set, &mut out[..room]);
     let number = number_of(graded);
     let count = graded.unwrap_or(0);
     let memory = Bytes(&out);

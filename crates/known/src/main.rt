@@ -9,32 +9,31 @@ mod calls;
 mod input;
 mod lists;
 
-// One call on a page.
-fn run_call(rt: &impl Print, page: &[u8], flags: u16, call: Call) -> io::Result<()> {
+// One call of a case.
+fn run_call(rt: &impl Print, case: &Case, call: Call) -> io::Result<()> {
     match call {
-        Call::List { room } => lists::list(rt, page, flags, room),
-        Call::Best { room } => lists::best(rt, page, flags, room),
-        Call::Degrees { set, room } => lists::degrees(rt, page, flags, set, room),
-        Call::Reduct { set } => calls::reduct(rt, page, flags, set),
-        Call::Rounds { set } => calls::rounds(rt, page, flags, set),
-        Call::HereThere { set } => calls::here_there(rt, page, flags, set),
-        Call::Split { set } => calls::split(rt, page, flags, set),
-        Call::AllThree { below } => calls::all_three(rt, page, flags, below),
-        Call::Compare { first, second } => calls::compare(rt, page, flags, first, second),
-        Call::Pick => calls::pick(rt, page, flags),
-        Call::Rows { below } => calls::rows(rt, page, below),
+        Call::List { which, room } => lists::list(rt, case, which, room),
+        Call::Degrees { set, room } => lists::degrees(rt, case, set, room),
+        Call::Reduct { set } => calls::reduct(rt, case, set),
+        Call::Rounds { set } => calls::rounds(rt, case, set),
+        Call::HereThere { set } => calls::here_there(rt, case, set),
+        Call::Split { set } => calls::split(rt, case, set),
+        Call::AllThree { below } => calls::all_three(rt, case, below),
+        Call::Compare { first, second } => calls::compare(rt, case, first, second),
+        Call::Pick => calls::pick(rt, case),
+        Call::Rows { below } => calls::rows(rt, case.page, below),
         Call::Letter { number } => calls::letter(rt, number),
     }
 }
 
 // A case: its name and flag word, then its calls. A name may be any bytes, so it is written as it is.
-fn run_case(rt: &impl Print, case: Case) -> io::Result<()> {
+fn run_case(rt: &impl Print, case: &Case) -> io::Result<()> {
     let flags = case.flags;
     rt.write_all(case.name)?;
     println!(rt; ", flags {flags}")?;
     for k in 0..case.many {
         match case.call(k) {
-            Some(call) => run_call(rt, case.page, flags, call)?,
+            Some(call) => run_call(rt, case, call)?,
             None => println!(rt; "  no such call")?,
         }
     }
@@ -45,7 +44,7 @@ fn run_case(rt: &impl Print, case: Case) -> io::Result<()> {
 fn run_cases(rt: &impl Print, text: &[u8]) -> io::Result<()> {
     let mut left = text;
     while let Some((case, rest)) = Case::read(left) {
-        run_case(rt, case)?;
+        run_case(rt, &case)?;
         left = rest;
     }
     Ok(())

@@ -95,11 +95,10 @@ fn say_page(rt: &impl Print, page: &[u8], flags: u16) -> io::Result<()> {
 
 // The input: a flag word and the page.
 fn say_input(rt: &impl Print, input: &[u8]) -> io::Result<()> {
-    if input.len() < 2 {
+    let Some((flags, page)) = input.split_first_chunk::<2>() else {
         return say_refused(rt, Refusal::TooShort);
-    }
-    let flags = u16::from_le_bytes([input[0], input[1]]);
-    say_page(rt, &input[2..], flags)
+    };
+    say_page(rt, page, u16::from_le_bytes(*flags))
 }
 
 // The buffer takes 4,096 bytes, and what comes after them is not read. The longest page has 866, so a longer input is refused by a number from

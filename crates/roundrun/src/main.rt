@@ -53,13 +53,13 @@ fn say_sets(rt: &impl Print, page: &[u8], flags: u16, first: u16, last: u16) -> 
 
 // The input: a flag word, two sets and the page. Where it breaks off before the page, the page is too short.
 fn say_input(rt: &impl Print, input: &[u8]) -> io::Result<()> {
-    if input.len() < 6 {
+    let Some((words, page)) = input.split_first_chunk::<6>() else {
         return say_refused(rt, Refusal::TooShort);
-    }
-    let flags = u16::from_le_bytes([input[0], input[1]]);
-    let first = u16::from_le_bytes([input[2], input[3]]);
-    let last = u16::from_le_bytes([input[4], input[5]]);
-    say_sets(rt, &input[6..], flags, first, last)
+    };
+    let flags = u16::from_le_bytes([words[0], words[1]]);
+    let first = u16::from_le_bytes([words[2], words[3]]);
+    let last = u16::from_le_bytes([words[4], words[5]]);
+    say_sets(rt, page, flags, first, last)
 }
 
 // The buffer takes 4,096 bytes, and what comes after them is not read. The longest page has 866, so a longer input is refused by a number from 1 to 4,
