@@ -47,16 +47,16 @@ fn say_shown(rt: &impl Print, shown: Shown) -> io::Result<()> {
 fn said(input: &[u8]) -> Result<Shown, Refusal>
     ensures { means.InputSays input.now result }
 {
-    if input.len() < 14 {
+    let Some((header, page)) = input.split_first_chunk::<14>() else {
         return Err(Refusal::TooShort);
-    }
+    };
     let readings = Readings {
         live: reading_at(input, 0),
         second: reading_at(input, 4),
         held: reading_at(input, 8),
     };
-    let flags = u16::from_le_bytes([input[12], input[13]]);
-    display::display(readings, &input[14..], flags)
+    let flags = u16::from_le_bytes([header[12], header[13]]);
+    display::display(readings, page, flags)
 }
 
 fn say(rt: &impl Print, said: Result<Shown, Refusal>) -> io::Result<()> {

@@ -2,10 +2,10 @@
 use Rattle.std.specs.Prelude.{Result}
 use mathlib.Core.Path.{◌≡◌, ◌∙◌}
 use mathlib.Core.List.{List, [], ◌∷◌}
-use Prim.Native.Nat.{ℕ, ◌-◌}
+use Prim.Native.Nat.{ℕ}
 use native.Mathlib.Omega.{arith}
-use lib.ListN.{length, take, drop, get_or, length-drop}
-use lib.Seq.{take_all}
+use lib.ListN.{length, take, drop, get_or}
+use lib.Seq.{get_or-take}
 use lib.Ieee.{Float}
 use Rattle.std.specs.Int.{w16, from_le_bytes}
 use borrow.Author.Tests.{lt-ltb, le-ltb}
@@ -24,21 +24,19 @@ module _ (input : List ℕ) where
   unfolding readings_of
   asked d x y z page flags is_live is_second is_held is_page is_flags says = rw (← is_live, ← is_second, ← is_held, ← is_page, ← is_flags) says
 
-  rest : take (length input - 14) (drop 14 input) ≡ drop 14 input
-  rest = take_all (length input - 14) (drop 14 input) (omega (arith, length-drop 14 input))
-
-pub returns-then-input-lt14 : goal.returns-then-input-lt14
+pub returns-in_default : goal.returns-in_default
 unfolding said_of by_number
-returns-then-input-lt14 c = rw (lt-ltb (length c.args.input.now) 14 (omega arith))
+returns-in_default c = rw (lt-ltb (length c.args.input.now) 14 (omega (arith, c.in_default.ensures)))
 
-flag_word : (input : List ℕ) → from_le_bytes w16 (get_or input 12 0 ∷ get_or input 13 0 ∷ []) ≡ word_at input 12
+flag_word : (input : List ℕ) → from_le_bytes w16 (get_or (take 14 input) 12 0 ∷ get_or (take 14 input) 13 0 ∷ []) ≡ word_at input 12
 unfolding word_at
-flag_word input = omega arith
+flag_word input = grind (arith, get_or-take)
 
 pub returns : goal.returns
 unfolding said_of
 returns c =
     let input = c.args.input.now in
-    rw (le-ltb (length input) 14 (omega arith))
+    let split = c.in-Some.ensures.cases in
+    rw (le-ltb (length input) 14 (omega (arith, split.2)))
     (asked input c.display.result c.reading_at.result c.reading_at-2.result c.reading_at-3.result _ c.from_le_bytes-flags.result c.reading_at.ensures c.reading_at-2.ensures
-    c.reading_at-3.ensures (rest input) (c.from_le_bytes-flags.ensures ∙ flag_word input) c.display.ensures)
+    c.reading_at-3.ensures split.1 (c.from_le_bytes-flags.ensures ∙ rw split.0 (flag_word input)) c.display.ensures)
