@@ -10,7 +10,7 @@ use mathlib.Core.Option.{none-ne-some, some-injective}
 use Prim.Native.Nat.{ℕ, ◌≤◌}
 use native.Mathlib.Omega.{arith}
 use lib.IntN.{pos}
-use lib.ListN.{length, get_or}
+use lib.ListN.{length, get_or, take, drop, take-append-drop}
 use Rattle.atoms.specs.Atoms as sets
 use Rattle.lpod.specs.Rule.{most_atoms}
 use Rattle.lpod.specs.Satisfied.{all_in, some_in, body_holds, satisfies, satisfies_all, no_pair}
@@ -176,6 +176,15 @@ pub pair_total_lem : (page : List ℕ) (x y : ℕ) → (x ≡ coded.pair_total p
 pair_total_lem page x y p q = one_answer p.0 q.0
 
 -- a vector by its entries
+-- these words first, and those after them
+parted : (n t : ℕ) (l m x y : List ℕ) → (length x ≡ n) × (take t x ≡ l) × (drop t x ≡ m) → (length y ≡ n) × (take t y ≡ l) × (drop t y ≡ m) → x ≡ y
+parted n t l m x y p q = sym (take-append-drop t x) ∙ rw (p.1, p.2, ← q.1, ← q.2) (take-append-drop t y)
+
+pub fill_rows : (page before x y : List ℕ)
+    → (length x ≡ 32) × (take (coded.row_total page) x ≡ coded.row_words page) × (drop (coded.row_total page) x ≡ drop (coded.row_total page) before)
+    → (length y ≡ 32) × (take (coded.row_total page) y ≡ coded.row_words page) × (drop (coded.row_total page) y ≡ drop (coded.row_total page) before) → x ≡ y
+fill_rows page before x y = parted 32 (coded.row_total page) (coded.row_words page) (drop (coded.row_total page) before) x y
+
 pub row_words : (page x y : List ℕ) → x ≡ coded.row_words page → y ≡ coded.row_words page → x ≡ y
 row_words page x y = one_answer
 

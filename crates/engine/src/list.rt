@@ -15,9 +15,11 @@ pub fn sets(page: &[u8], flags: u16, which: Which, out: &mut [u16]) -> Result<u3
     ensures { means.SetsSay (wanted which (program page.now flags)) page.now flags out.old result out.new }
 {
     accept::check_flags(page, flags)?;
-    let rows = read::row_words(page);
+    let mut words = [0; 32];
+    read::fill_rows(page, &mut words);
+    let rows = &words[..read::row_total(page)];
     let pairs = read::pair_words(page);
-    let count = sets::sets(&rows, &pairs, flags, which, out);
+    let count = sets::sets(rows, &pairs, flags, which, out);
     if out.len() < count as usize {
         return Err(Refusal::NoRoom);
     }

@@ -11,7 +11,9 @@ pub fn pick(page: &[u8], flags: u16) -> Result<u16, Refusal>
     ensures { means.PickSays page.now flags result }
 {
     accept::check_flags(page, flags)?;
-    let rows = read::row_words(page);
+    let mut words = [0; 32];
+    read::fill_rows(page, &mut words);
+    let rows = &words[..read::row_total(page)];
     let pairs = read::pair_words(page);
-    sets::pick(&rows, &pairs, flags).ok_or(Refusal::NoAnswerSet)
+    sets::pick(rows, &pairs, flags).ok_or(Refusal::NoAnswerSet)
 }

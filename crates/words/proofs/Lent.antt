@@ -25,6 +25,10 @@ words_many n words h = sym (length-take-le n words h)
 pub words_most : (n most : ℕ) (words : List ℕ) → n ≤ length words → n ≤ most → length (take n words) ≤ most
 words_most n most words h l = omega (arith, words_many n words h)
 
+-- the words of the rows at the start of an array
+pub rows_lent : (page : List ℕ) (n : ℕ) (words : List ℕ) → n ≡ row_total page → take (row_total page) words ≡ row_words page → take n words ≡ row_words page
+rows_lent page n words e h = ap (λ (k : ℕ). take k words) e ∙ h
+
 -- a call's number is 0 only where the page is accepted
 pub test_page : (page : List ℕ) (flags set : ℕ) → 0 ≡ test_no page flags set → page_no page ≡ 0
 test_page page flags set e = flag_page page flags (test_flags page flags set (sym e))

@@ -1,5 +1,5 @@
 // From a page to words. This is the one place that reads literals and pairs for the tests of sets, each once for a call. Any page will do.
-ghost use Rattle.std.specs.Prelude.{◌≡◌, ◌%◌, ◌^◌, ◌≤◌};
+ghost use Rattle.std.specs.Prelude.{◌≡◌, ◌%◌, ◌^◌, ◌≤◌, length, take, drop};
 ghost use Rattle.page.specs.Fields.{word_at};
 ghost use Rattle.page.specs.Program.{literals};
 ghost use Rattle.page.specs.Rows.{rule_of};
@@ -58,6 +58,22 @@ fn row_word(page: &[u8], row: rows::Row) -> u64
     let neg = u64::from(set_of(page, body + usize::from(row.pos), row.neg));
     let head = u64::from(packed(page, place, count));
     pos + 65536 * neg + 4294967296 * u64::from(count) + 1099511627776 * head
+}
+
+// The word of each row, in row order, at the start of the lent array; the words after these stay as they were. A vector that is handed out is copied once
+// more, which was a fifth of the list of a small page: so the calls that try all sets lend an array.
+pub fn fill_rows(page: &[u8], words: &mut [u64; 32])
+    ensures { (length words.new ≡ 32) × (take (means.row_total page.now) words.new ≡ means.row_words page.now) × (drop (means.row_total page.now) words.new ≡ drop (means.row_total page.now) words.old) }
+{
+    // As a slice the array is known to have 32 words.
+    let out: &mut [u64] = words;
+    let total = row_total(page);
+    let mut place = rows::first_place(page);
+    for r in 0..total {
+        let row = rows::row_from(page, r as u16, place);
+        out[r] = row_word(page, row);
+        place = rows::place_after(row);
+    }
 }
 
 // The word of each row, in row order.
