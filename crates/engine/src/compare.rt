@@ -6,6 +6,7 @@ ghost use Rattle.words.specs.Coded.{program_in};
 ghost use Rattle.engine.specs.Compare as means;
 
 use super::rank;
+use arrayvec::ArrayVec;
 use page::accept;
 use page::refusal::Refusal;
 use routes::reduct;
@@ -46,7 +47,8 @@ pub fn compare(page: &[u8], flags: u16, first: u16, second: u16) -> Result<Side,
 {
     accept::check_test(page, flags, first)?;
     accept::check_set(page, second)?;
-    let rows = read::row_words(page);
+    let mut rows = ArrayVec::new();
+    read::put_rows(page, &mut rows);
     let pairs = read::pair_words(page);
     if !both_answer(&rows, &pairs, flags, first, second) {
         return Err(Refusal::NotAnAnswerSet);

@@ -6,6 +6,7 @@ ghost use Rattle.words.specs.Coded.{rules_in};
 ghost use Rattle.lanes.specs.Entries.{over};
 ghost use Rattle.engine.specs.Degrees as means;
 
+use arrayvec::ArrayVec;
 use page::accept;
 use page::refusal::Refusal;
 use routes::reduct;
@@ -28,7 +29,8 @@ pub fn degrees(page: &[u8], flags: u16, set: u16, out: &mut [u8]) -> Result<u16,
     ensures { means.DegreesSays page.now flags set out.old out.new result }
 {
     accept::check_test(page, flags, set)?;
-    let rows = read::row_words(page);
+    let mut rows = ArrayVec::new();
+    read::put_rows(page, &mut rows);
     let count = rows.len();
     if out.len() < count {
         return Err(Refusal::NoRoom);

@@ -2,6 +2,9 @@
 // many of the later ones are as they were.
 ghost use Rattle.std.specs.Prelude.{◌≤◌, length};
 ghost use Rattle.std.specs.Result.{result_unwrap_or};
+ghost use Rattle.page.specs.Program.{program};
+ghost use Rattle.lanes.specs.Sets.{wanted};
+ghost use Rattle.engine.specs.Calls as means;
 
 use super::calls::number_of;
 use super::input::Case;
@@ -83,10 +86,21 @@ fn say_listed(
     println!(rt; "  {word} into {n}: number {number}, count {count}, sets{sets}, kept {kept}")
 }
 
+// All answer sets, or the best of them, in lent memory: each by the call of its name.
+#[tactic(auto, unfolding(lanes::specs::Sets::wanted))]
+fn ask(case: &Case, which: Which, out: &mut [u16]) -> Result<u32, Refusal>
+    ensures { means.SetsSay (wanted which (program case.now.page.now case.now.flags)) case.now.page.now case.now.flags out.old result out.new }
+{
+    match which {
+        Which::All => engine::list::list(case.page, case.flags, out),
+        Which::Best => engine::best::best(case.page, case.flags, out),
+    }
+}
+
 // All answer sets, or the best of them, into a slice of n entries.
 pub fn list(rt: &impl Print, case: &Case, which: Which, n: u16) -> io::Result<()> {
     let mut out = [UNTOUCHED; ROOM];
-    let listed = engine::list::sets(case.page, case.flags, which, &mut out[..usize::from(n)]);
+    let listed = ask(case, which, &mut out[..usize::from(n)]);
     let word = match which {
         Which::All => "list",
         Which::Best => "best",

@@ -102,15 +102,18 @@ impl<'a> Ranking<'a> {
         if all_first(first, self.rules.rows.len()) {
             return None;
         }
+        // What each turn asks of the ranking is read once, before the loop.
+        let index = self.index;
+        let span = self.span;
         let mut c = b;
         while (c as usize) < marks.len() {
-            if first & self.index[c as usize] == first {
+            if first & index[c as usize] == first {
                 let x = self.meet(&grades, &mut *marks, m, c);
                 if x != 0 {
                     return Some(64 * c + x.trailing_zeros() as u16);
                 }
             }
-            c = self.span.next(c);
+            c = span.next(c);
         }
         None
     }

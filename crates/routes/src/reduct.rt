@@ -10,6 +10,7 @@ ghost use Rattle.routes.specs.Tests.{ReductSays};
 ghost use Rattle.routes.specs.Rounds.{RoundsSays};
 
 use super::first_in_head;
+use arrayvec::ArrayVec;
 use page::accept;
 use page::refusal::Refusal;
 use words::{read, row, rows};
@@ -73,7 +74,8 @@ pub fn reduct_test(page: &[u8], flags: u16, set: u16) -> Result<bool, Refusal>
     ensures { ReductSays page.now flags set result }
 {
     accept::check_test(page, flags, set)?;
-    let rows = read::row_words(page);
+    let mut rows = ArrayVec::new();
+    read::put_rows(page, &mut rows);
     let pairs = read::pair_words(page);
     Ok(is_answer(&rows, &pairs, flags, set))
 }
@@ -101,6 +103,7 @@ pub fn rounds(page: &[u8], flags: u16, to: u16) -> Result<u32, Refusal>
     ensures { RoundsSays page.now flags to result }
 {
     accept::check_test(page, flags, to)?;
-    let rows = read::row_words(page);
+    let mut rows = ArrayVec::new();
+    read::put_rows(page, &mut rows);
     Ok(count_rounds(&rows, flags, to))
 }

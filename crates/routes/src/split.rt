@@ -94,11 +94,11 @@ fn least_closed(choice: &[Chosen], flags: u16, set: u16) -> u16
     }
 }
 
-// All rows without head are satisfied.
+// All rows without head are satisfied. The first row, which the choice has last, is asked first.
 fn bars_hold(choice: &[Chosen], set: u16) -> bool
     ensures { result ≡ every (bar_holds set) (choices.all_chosen choice.now) }
 {
-    choice.iter().all(|chosen| chosen.bar_holds(set))
+    choice.iter().rev().all(|chosen| chosen.bar_holds(set))
 }
 
 // The set is an answer set of the split program that is chosen.
@@ -146,7 +146,8 @@ pub fn split_test(page: &[u8], flags: u16, set: u16) -> Result<u16, Refusal>
     ensures { means.SplitSays page.now flags set result }
 {
     accept::check_test(page, flags, set)?;
-    let rows = read::row_words(page);
+    let mut rows = ArrayVec::new();
+    read::put_rows(page, &mut rows);
     if too_many(&rows) {
         return Err(Refusal::TooManySplits);
     }

@@ -76,18 +76,27 @@ pub fn fill_rows(page: &[u8], words: &mut [u64; 32])
     }
 }
 
-// The word of each row, in row order.
-pub fn row_words(page: &[u8]) -> ArrayVec<u64, 32>
-    ensures { result.items ≡ means.row_words page.now }
+// The word of each row, in row order, in place of what the lent vector had. The calls that test one set lend theirs, since a vector that is handed out
+// is copied once more.
+pub fn put_rows(page: &[u8], words: &mut ArrayVec<u64, 32>)
+    ensures { words.new.items ≡ means.row_words page.now }
 {
+    words.clear();
     let total = row_total(page);
-    let mut words = ArrayVec::new();
     let mut place = rows::first_place(page);
     for n in 0..total {
         let row = rows::row_from(page, n as u16, place);
         words.push(row_word(page, row));
         place = rows::place_after(row);
     }
+}
+
+// The word of each row, in row order.
+pub fn row_words(page: &[u8]) -> ArrayVec<u64, 32>
+    ensures { result.items ≡ means.row_words page.now }
+{
+    let mut words = ArrayVec::new();
+    put_rows(page, &mut words);
     words
 }
 

@@ -52,7 +52,8 @@ fn put_header(numbers: [u16; 9], out: &mut [u8])
     ensures { out.new ≡ sets out.old 0 (two_bytes numbers) }
 {
     for (i, n) in numbers.iter().enumerate() {
-        put(&n.to_le_bytes(), 2 * i, &mut *out);
+        let [low, high] = n.to_le_bytes();
+        put(&[low, high], 2 * i, &mut *out);
     }
 }
 

@@ -13,10 +13,10 @@ returns-in_err-check_set c =
 
 pub returns-then-not-both_answer : goal.returns-then-not-both_answer
 returns-then-not-both_answer c =
-    compare_no_answer _ _ _ _ c.in_ok-check_test.ensures c.in_ok-check_set.ensures _ (c.deref.ensures.0 ∙ c.row_words-rows.ensures)
+    compare_no_answer _ _ _ _ c.in_ok-check_test.ensures c.in_ok-check_set.ensures _ (c.deref.ensures.0 ∙ c.put_rows.ensures)
     _ (c.deref-2.ensures.0 ∙ c.pair_words-pairs.ensures) _ c.both_answer.ensures c.if-not-both_answer.true
 
 pub returns : goal.returns
 returns c =
-    compare_given _ _ _ _ c.in_ok-check_test.ensures c.in_ok-check_set.ensures _ c.row_words-rows.ensures _ c.pair_words-pairs.ensures
+    compare_given _ _ _ _ c.in_ok-check_test.ensures c.in_ok-check_set.ensures _ c.put_rows.ensures _ c.pair_words-pairs.ensures
     _ (rw (c.deref.ensures.0, c.deref-2.ensures.0) at c.both_answer.ensures) c.if-not-both_answer.false _ (rw c.deref-3.ensures.0 at c.side_of.ensures)

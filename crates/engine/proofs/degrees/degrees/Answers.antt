@@ -10,15 +10,15 @@ returns-in_err-check_test c =
     rw (passed_up _ _ c.from_residual.ensures.1) (grading_tested a.page.now a.flags a.set a.out.now _ c.in_err-check_test.ensures)
 
 pub returns-then-out-count : goal.returns-then-out-count
-returns-then-out-count c = grading_short _ _ _ _ c.in_ok-check_test.ensures _ c.row_words-rows.ensures (omega arith)
+returns-then-out-count c = grading_short _ _ _ _ c.in_ok-check_test.ensures _ c.put_rows.ensures (omega arith)
 
 pub returns-then-not-is_answer : goal.returns-then-not-is_answer
 returns-then-not-is_answer c =
-    grading_no_answer _ _ _ _ c.in_ok-check_test.ensures _ c.row_words-rows.ensures (omega arith) _ c.pair_words-pairs.ensures
+    grading_no_answer _ _ _ _ c.in_ok-check_test.ensures _ c.put_rows.ensures (omega arith) _ c.pair_words-pairs.ensures
     _ (rw (c.deref.ensures.0, c.deref-2.ensures.0) at c.is_answer.ensures) c.if-not-is_answer.true
 
 pub returns : goal.returns
 returns c =
-    grading_given _ _ _ _ c.in_ok-check_test.ensures _ c.row_words-rows.ensures (omega arith) _ c.pair_words-pairs.ensures
+    grading_given _ _ _ _ c.in_ok-check_test.ensures _ c.put_rows.ensures (omega arith) _ c.pair_words-pairs.ensures
     _ (rw (c.deref.ensures.0, c.deref-2.ensures.0) at c.is_answer.ensures) c.if-not-is_answer.false _ c.len-count.ensures.value
     _ (rw c.deref-3.ensures.0 at c.store.ensures)

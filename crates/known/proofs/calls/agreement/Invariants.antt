@@ -3,4 +3,4 @@ use Rattle.std.proofs.Common.{◌≤◌}
 use Rattle.known.proofs.calls.agreement.Given as goal
 
 abbrev pub invariant-loop-set : goal.invariant-loop-set
-invariant-loop-set l = record { agreed : l.agreed ≤ l.set; answers : l.answers ≤ l.set }
+invariant-loop-set l = record { to : l.set ≤ l.below; agreed : l.agreed ≤ l.set; answers : l.answers ≤ l.set }

@@ -5,5 +5,5 @@ use Rattle.known.proofs.lists.list.Goals as goal
 
 pub say_listed-requires : goal.say_listed-requires
 say_listed-requires g c =
-    let listed = c.sets-listed in
+    let listed = c.ask-listed in
     simp length-append (omega (arith, count_fits _ _ _ _ listed.result listed.ensures.0 listed.ensures.1 listed.auto.out))

@@ -16,5 +16,5 @@ unfolding here_there_test
 returns c =
     let a = c.args in
     let z = c.in_ok-check_test.ensures in
-    let e = lent_here_there a.page.now (test_page _ _ _ z) _ (c.deref.ensures.0 ∙ c.row_words-rows.ensures) _ (c.deref-2.ensures.0 ∙ c.pair_words-pairs.ensures) a.flags in
+    let e = lent_here_there a.page.now (test_page _ _ _ z) _ (c.deref.ensures.0 ∙ c.put_rows.ensures) _ (c.deref-2.ensures.0 ∙ c.pair_words-pairs.ensures) a.flags in
     given _ _ _ z _ (c.is_here_there.ensures ∙ ap (λ (f : ℕ → Bool). f a.set) e)

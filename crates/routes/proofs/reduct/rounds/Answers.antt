@@ -18,5 +18,5 @@ unfolding rounds_to chain_to
 returns c =
     let a = c.args in
     let z = c.in_ok-check_test.ensures in
-    let e = lent_rules a.page.now (test_page _ _ _ z) _ (c.deref.ensures.0 ∙ c.row_words-rows.ensures) a.flags in
+    let e = lent_rules a.page.now (test_page _ _ _ z) _ (c.deref.ensures.0 ∙ c.put_rows.ensures) a.flags in
     given _ _ _ z _ (c.count_rounds.ensures ∙ ap (λ (P : List Rule). chain (reduct P a.to)) e)

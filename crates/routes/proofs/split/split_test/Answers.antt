@@ -14,13 +14,13 @@ pub returns-then-too_many : goal.returns-then-too_many
 returns-then-too_many c =
     let a = c.args in
     let z = c.in_ok-check_test.ensures in
-    let many = many_words a.page.now a.flags a.set z _ (c.deref.ensures.0 ∙ c.row_words-rows.ensures) _ c.too_many.ensures in
+    let many = many_words a.page.now a.flags a.set z _ (c.deref.ensures.0 ∙ c.put_rows.ensures) _ c.too_many.ensures in
     refused_many a.page.now a.flags a.set z _ many c.if-too_many.true
 
 pub returns : goal.returns
 returns c =
     let a = c.args in
     let z = c.in_ok-check_test.ensures in
-    let many = many_words a.page.now a.flags a.set z _ (c.deref.ensures.0 ∙ c.row_words-rows.ensures) _ c.too_many.ensures in
-    let e = lent_split a.page.now (test_page _ _ _ z) _ (c.deref-2.ensures.0 ∙ c.row_words-rows.ensures) _ (c.deref-3.ensures.0 ∙ c.pair_words-pairs.ensures) a.flags in
+    let many = many_words a.page.now a.flags a.set z _ (c.deref.ensures.0 ∙ c.put_rows.ensures) _ c.too_many.ensures in
+    let e = lent_split a.page.now (test_page _ _ _ z) _ (c.deref-2.ensures.0 ∙ c.put_rows.ensures) _ (c.deref-3.ensures.0 ∙ c.pair_words-pairs.ensures) a.flags in
     counted_splits a.page.now a.flags a.set z _ many c.if-too_many.false _ (c.split_count.ensures ∙ ap (λ (f : ℕ → ℕ). f a.set) e)

@@ -14,7 +14,7 @@ use Rattle.lanes.proofs.Index.{none_first, no_rival}
 use Rattle.lanes.proofs.Clearing.{clear_none, clear_more, rivals_before}
 use Rattle.lanes.proofs.Champion.{by_rows}
 use Rattle.lanes.proofs.ranking.Ranking.rival_from.Goals as goal
-use Rattle.lanes.proofs.ranking.Ranking.rival_from.Goals.{then-first-self+else-x-ne0, else-first-self}
+use Rattle.lanes.proofs.ranking.Ranking.rival_from.Goals.{then-first-index+else-x-ne0, else-first-index}
 
 pub returns-then-all_first : goal.returns-then-all_first
 returns-then-all_first c =
@@ -38,7 +38,7 @@ returns-then-x-ne0 c =
 
 pub loop-c-preserved : goal.loop-c-preserved
 loop-c-preserved c =
-    let came = c.if-first-self.branch in
+    let came = c.if-first-index.branch in
     let h = c.loop-c in
     let a = c.args in
     let z = c.requires.0 in
@@ -49,16 +49,16 @@ loop-c-preserved c =
     let l : h.c < length a.marks.now = omega (arith, c.loop-c-test.true, f.same) in
     let none : NoneBetween q (64 * h.c) (64 * (h.c + 1)) =
     elim came [
-      | then-first-self+else-x-ne0 v ↦ word_none q h.c v.meet-x.result (rivals_before _ _ _ _ f (by_rows _) h.c v.meet-x.result v.meet-x.ensures.0) v.if-x-ne0.false
-      | else-first-self v ↦
-          word_none q h.c 0 (none_first _ a.marks.now h.c a.m _ a.self.now.index.now c.first_rows-first.result c.grade.ensures.0 c.first_rows-first.ensures z.firsts l v.if-first-self.false) refl
+      | then-first-index+else-x-ne0 v ↦ word_none q h.c v.meet-x.result (rivals_before _ _ _ _ f (by_rows _) h.c v.meet-x.result v.meet-x.ensures.0) v.if-x-ne0.false
+      | else-first-index v ↦
+          word_none q h.c 0 (none_first _ a.marks.now h.c a.m _ a.self.now.index.now c.first_rows-first.result c.grade.ensures.0 c.first_rows-first.ensures z.firsts l v.if-first-index.false) refl
     ] in (
       n.ensures.1,
       n.ensures.3,
       h.invariant.2 ∙ scan_on o _ a.m _ _ z.between h.c n.result none n.ensures.0 n.ensures.1 n.ensures.2,
       elim came [
-        | then-first-self+else-x-ne0 v ↦ subst (Cleared o a.m a.marks.now) (sym v.marks-is) (clear_more _ _ _ _ _ f v.meet-x.ensures.1)
-        | else-first-self v ↦ subst (Cleared o a.m a.marks.now) (sym v.marks-is) f
+        | then-first-index+else-x-ne0 v ↦ subst (Cleared o a.m a.marks.now) (sym v.marks-is) (clear_more _ _ _ _ _ f v.meet-x.ensures.1)
+        | else-first-index v ↦ subst (Cleared o a.m a.marks.now) (sym v.marks-is) f
       ],
     )
 

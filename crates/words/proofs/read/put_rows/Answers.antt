@@ -1,4 +1,4 @@
--- `read::row_words` makes the word of one row after the other. Assumes nothing.
+-- `read::put_rows` makes the word of one row after the other. Assumes nothing.
 use mathlib.Core.Path.{◌≡◌, refl, ap, ◌∙◌}
 use mathlib.Core.List.{List, ◌∷◌, map}
 use Prim.Native.Nat.{ℕ, ◌<◌}
@@ -8,7 +8,7 @@ use Rattle.lpod.specs.Rule.{Rule}
 use Rattle.page.proofs.RowSteps.{at_first, at_next, rest_step, rest_none}
 use Rattle.words.specs.Coded.{row_word, row_words}
 use Rattle.words.proofs.Filled.{pushed, all_pushed}
-use Rattle.words.proofs.read.row_words.Goals as goal
+use Rattle.words.proofs.read.put_rows.Goals as goal
 
 -- the rows to come: the one in hand, by its word, and the rest
 to-come : (P rest : List Rule) (r : Rule) (w : ℕ) → P ≡ r ∷ rest → w ≡ row_word r → map row_word P ≡ w ∷ map row_word rest
@@ -20,8 +20,8 @@ loop-n-init c =
     let first = c.first_place-place.ensures in
     record {
       at_row = at_first _ _ first;
-      many = rw c.new-words.ensures refl;
-      filled = rw (c.new-words.ensures, sub-zero, first, c.row_total-total.ensures.0);
+      many = rw c.clear.ensures refl;
+      filled = rw (c.clear.ensures, sub-zero, first, c.row_total-total.ensures.0);
     }
 
 pub loop-n-preserved : goal.loop-n-preserved

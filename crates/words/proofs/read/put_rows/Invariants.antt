@@ -2,7 +2,7 @@
 use Rattle.std.proofs.Common.{◌≡◌, ◌-◌, ◌++◌, length, map}
 use Rattle.page.specs.Program.{rows_from, literal_place}
 use Rattle.words.specs.Coded.{row_word, row_words}
-use Rattle.words.proofs.read.row_words.Given as goal
+use Rattle.words.proofs.read.put_rows.Given as goal
 
 abbrev pub invariant-loop-n : goal.invariant-loop-n
 invariant-loop-n l = record {
