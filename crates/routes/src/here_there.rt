@@ -36,7 +36,7 @@ fn rows_hold(rows: &[u64], here: u16, there: u16) -> bool
 }
 
 // (here, there) is a model: of the raised atoms' rows where both hold the flags, and of every row. It stays a call: in line, its look at the flags is
-// made for each number below `there`, and a set of many atoms takes a quarter longer.
+// made for each number below `there`, and a set of many atoms takes up to two and a half times as long.
 #[tactic(auto, using(crate::proofs::HeadsHold::model_flags))]
 #[inline(never)]
 fn is_model(rows: &[u64], flags: u16, here: u16, there: u16) -> bool

@@ -76,8 +76,7 @@ pub fn fill_rows(page: &[u8], words: &mut [u64; 32])
     }
 }
 
-// The word of each row, in row order, in place of what the lent vector had. The calls that test one set lend theirs, since a vector that is handed out
-// is copied once more.
+// The word of each row, in row order, in place of what the lent vector had. The calls that test one set lend theirs, for the same reason.
 pub fn put_rows(page: &[u8], words: &mut ArrayVec<u64, 32>)
     ensures { words.new.items ≡ means.row_words page.now }
 {

@@ -46,7 +46,7 @@ fn put(part: &[u8], at: usize, out: &mut [u8])
     out[at..at + part.len()].copy_from_slice(part);
 }
 
-// Stores the header's numbers, each in two bytes, the low one first.
+// Stores the header's numbers, each in two bytes, the low one first. The bytes have names, so that an edit can exchange them and nothing else.
 fn put_header(numbers: [u16; 9], out: &mut [u8])
     requires { 18 ≤ length out.old }
     ensures { out.new ≡ sets out.old 0 (two_bytes numbers) }

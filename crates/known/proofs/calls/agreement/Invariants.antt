@@ -1,4 +1,4 @@
--- No more are counted than were passed. Assumes nothing.
+-- No more are counted than were passed, and no set past those below the number is asked about. Assumes nothing.
 use Rattle.std.proofs.Common.{◌≤◌}
 use Rattle.known.proofs.calls.agreement.Given as goal
 
