@@ -175,7 +175,6 @@ row_total_lem page x y p q = one_answer p.0 q.0
 pub pair_total_lem : (page : List ℕ) (x y : ℕ) → (x ≡ coded.pair_total page) × (x ≤ 8) → (y ≡ coded.pair_total page) × (y ≤ 8) → x ≡ y
 pair_total_lem page x y p q = one_answer p.0 q.0
 
--- a vector by its entries
 -- these words first, and those after them
 parted : (n t : ℕ) (l m x y : List ℕ) → (length x ≡ n) × (take t x ≡ l) × (drop t x ≡ m) → (length y ≡ n) × (take t y ≡ l) × (drop t y ≡ m) → x ≡ y
 parted n t l m x y p q = sym (take-append-drop t x) ∙ rw (p.1, p.2, ← q.1, ← q.2) (take-append-drop t y)
@@ -185,6 +184,7 @@ pub fill_rows : (page before x y : List ℕ)
     → (length y ≡ 32) × (take (coded.row_total page) y ≡ coded.row_words page) × (drop (coded.row_total page) y ≡ drop (coded.row_total page) before) → x ≡ y
 fill_rows page before x y = parted 32 (coded.row_total page) (coded.row_words page) (drop (coded.row_total page) before) x y
 
+-- a vector by its entries: what `row_words` gives, and what `put_rows` leaves
 pub row_words : (page x y : List ℕ) → x ≡ coded.row_words page → y ≡ coded.row_words page → x ≡ y
 row_words page x y = one_answer
 
